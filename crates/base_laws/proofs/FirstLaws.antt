@@ -1,0 +1,78 @@
+-- Laws of the first fault: what a search for it keeps from place to place, and what it finds.
+use Rattle.std.proofs.Common.{◌≡◌, ℕ, zero, suc, ◌+◌, ◌-◌, ◌<◌, ◌≤◌, Option, Some, None, refl, sym, ◌∙◌, ap, arith, add-one, ◌⊎◌, inl, inr}
+use Rattle.base_laws.specs.Firsts.{or_else, first_at, IsFirstAt}
+
+-- where a place passes, the places after it decide
+pub first_at-more : {F : Type 0} (test : ℕ → Option F) (at n : ℕ) → at < n → test at ≡ None
+    → first_at test at (n - at) ≡ first_at test (at + 1) (n - (at + 1))
+first_at-more test at n below passes =
+    let left : n - at ≡ suc (n - (at + 1)) = omega arith in
+    rw (left, passes, add-one)
+
+-- where a place has a fault, that is the first
+pub first_at-stop : {F : Type 0} (test : ℕ → Option F) (at n : ℕ) (fault : F) → at < n → test at ≡ Some fault
+    → first_at test at (n - at) ≡ Some fault
+first_at-stop test at n fault below found =
+    let left : n - at ≡ suc (n - (at + 1)) = omega arith in
+    rw (left, found)
+
+-- where no place is left, there is no fault
+pub first_at-end : {F : Type 0} (test : ℕ → Option F) (at n : ℕ) → n ≤ at → first_at test at (n - at) ≡ None
+first_at-end test at n none_left =
+    let left : n - at ≡ 0 = omega arith in
+    rw left
+
+this_or_later : (k start : ℕ) → start ≤ k → (k ≡ start) ⊎ (suc start ≤ k)
+this_or_later k start low = grind arith
+
+-- what holds at the first place and at every later one holds at each
+at_each : (P : ℕ → Type 0) (start k : ℕ) → start ≤ k → P start → (suc start ≤ k → P k) → P k
+at_each P start k low here later = by_place (this_or_later k start low)
+  where
+  by_place : (k ≡ start) ⊎ (suc start ≤ k) → P k
+  by_place (inl same) = rw same here
+  by_place (inr after) = later after
+
+none_left : {F : Type 0} (here rest : Option F) → or_else here rest ≡ None → (here ≡ None) × (rest ≡ None)
+none_left None rest none = (refl, none)
+none_left (Some fault) rest none = cc
+
+-- where no place has a fault, each of them passes
+pub first_at-none : {F : Type 0} (test : ℕ → Option F) (start n : ℕ) → first_at test start n ≡ None
+    → (k : ℕ) → start ≤ k → k < start + n → test k ≡ None
+first_at-none test start zero none k low high = absurd (omega arith)
+first_at-none test start (suc n) none k low high =
+    let parts = none_left (test start) (first_at test (suc start) n) none in
+    at_each (λ k. test k ≡ None) start k low parts.0 (λ after. first_at-none test (suc start) n parts.1 k after (omega arith))
+
+found_later : {F : Type 0} (test : ℕ → Option F) (start n : ℕ) (fault : F) → test start ≡ None
+    → IsFirstAt test (suc start) n fault → IsFirstAt test start (suc n) fault
+found_later test start n fault passes first = record {
+  place = first.place;
+  from = (let h : suc start ≤ first.place = first.from in omega arith);
+  below = (let h : first.place < suc start + n = first.below in omega arith);
+  found = first.found;
+  before = λ k low high. at_each (λ k. test k ≡ None) start k low passes (λ after. first.before k after high) }
+
+found_here : {F : Type 0} (test : ℕ → Option F) (start n : ℕ) (fault : F) → test start ≡ Some fault
+    → IsFirstAt test start (suc n) fault
+found_here test start n fault found = record {
+  place = start; from = omega arith; below = omega arith; found = found; before = λ k low high. absurd (omega arith) }
+
+one_of_both : {F : Type 0} (here rest : Option F) (fault : F) → or_else here rest ≡ Some fault
+    → (here ≡ Some fault) ⊎ ((here ≡ None) × (rest ≡ Some fault))
+one_of_both None rest fault found = inr (refl, found)
+one_of_both (Some first) rest fault found = inl found
+
+-- a first fault stands at a place, and every place before it passes
+pub first_at-some : {F : Type 0} (test : ℕ → Option F) (start n : ℕ) (fault : F) → first_at test start n ≡ Some fault
+    → IsFirstAt test start n fault
+first_at-some test start zero fault found = cc
+first_at-some test start (suc n) fault found =
+    by_place (one_of_both (test start) (first_at test (suc start) n) fault found) (first_at-some test (suc start) n fault)
+  where
+  by_place : (test start ≡ Some fault) ⊎ ((test start ≡ None) × (first_at test (suc start) n ≡ Some fault))
+      → (first_at test (suc start) n ≡ Some fault → IsFirstAt test (suc start) n fault)
+      → IsFirstAt test start (suc n) fault
+  by_place (inl here) later = found_here test start n fault here
+  by_place (inr after) later = found_later test start n fault after.0 (later after.1)

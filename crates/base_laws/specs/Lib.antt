@@ -1,0 +1,4 @@
+pub mod Firsts
+pub mod Folds
+pub mod Sets
+pub mod Sorting

@@ -1,0 +1,4 @@
+pub mod Value
+pub mod Schema
+pub mod Table
+pub mod ValueLaws
