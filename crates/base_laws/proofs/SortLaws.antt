@@ -2,12 +2,13 @@
 use Rattle.std.proofs.Common.{◌≡◌, ℕ, zero, suc, ◌+◌, ◌<◌, ◌≤◌, Bool, true, false, cond, List, [], ◌∷◌, ◌++◌, length, map, refl, sym, ◌∙◌, ap, arith, add-one}
 use Rattle.std.specs.Prelude.{count_by, sum_by, slice_index_or, if◌then◌else◌}
 use Rattle.std.specs.List.Sorted.{IsPermutation, IsSorted, IsSortedBy}
-use Rattle.std.specs.Ordering.{is_gt, is_lt, is_eq, ordering_reverse}
+use Rattle.std.specs.Ordering.{is_gt, is_lt, is_eq, ordering_reverse, ordering_then}
 use Rattle.std.specs.Cmp.{IsTotalOrder}
+use Rattle.std.specs.Cmp.Lexicographic.{slice_cmp}
 use Rattle.std.specs.declared.cmp.Ordering.{Ordering}
 use Rattle.std.specs.declared.cmp.Ordering.TheVariants.{Less, Equal, Greater}
 use Rattle.std.proofs.lemmas.Cmp.{upto, tied_itself}
-use Rattle.std.proofs.lemmas.List.{get_or-map}
+use Rattle.std.proofs.lemmas.List.{get_or-map, length-map}
 use Rattle.std.proofs.lemmas.List.Sums.{sum_by-cons}
 use Rattle.std.proofs.lemmas.List.Sorted.{sum_by-IsPermutation, sorted_far, ranks_by}
 use Rattle.base_laws.specs.Sorting.{inserted, in_order}
@@ -177,3 +178,31 @@ module _ {T : Type 0} {cmp : T → T → Ordering} (total : IsTotalOrder cmp) wh
   in_order_is ties xs ys moved up =
       ascending_unique ties ys (in_order cmp xs) (ascends_from_sorted ys up) (in_order_ascends xs)
         (λ z. times-IsPermutation z xs ys moved ∙ sym (times-in_order z xs))
+
+both_tied : (a b : Ordering) → ordering_then a b ≡ Equal → (a ≡ Equal) × (b ≡ Equal)
+both_tied Less b tied = cc
+both_tied Equal b tied = (refl, tied)
+both_tied Greater b tied = cc
+
+-- where ties of members are one member, ties of lists are one list
+pub lists_tied : {T : Type 0} (cmp : T → T → Ordering) → ((x y : T) → cmp x y ≡ Equal → x ≡ y)
+    → (xs ys : List T) → slice_cmp cmp xs ys ≡ Equal → xs ≡ ys
+lists_tied cmp ties [] [] tied = refl
+lists_tied cmp ties [] (y ∷ ys) tied = cc
+lists_tied cmp ties (x ∷ xs) [] tied = cc
+lists_tied cmp ties (x ∷ xs) (y ∷ ys) tied =
+    let parts = both_tied (cmp x y) (slice_cmp cmp xs ys) tied in
+    let heads : x ≡ y = ties x y parts.0 in
+    let tails : xs ≡ ys = lists_tied cmp ties xs ys parts.1 in cc
+
+-- a list that is sorted by what a function shows of its members shows a sorted list
+pub shown_sorted : {S T : Type 0} (show : S → T) (cmp : T → T → Ordering) (xs : List S)
+    → IsSorted (λ a b. cmp (show a) (show b)) xs → IsSorted cmp (map show xs)
+shown_sorted show cmp [] up = λ k d low high. absurd (omega arith)
+shown_sorted show cmp (x ∷ xs) up = λ k d low high. at_place k d (rw length-map at high)
+  where
+  at_place : (k : ℕ) (d : _) → k + 1 < length (x ∷ xs)
+      → is_lt (cmp (slice_index_or (map show (x ∷ xs)) (k + 1) d) (slice_index_or (map show (x ∷ xs)) k d)) ≡ false
+  at_place k d high =
+      let below : k < length (x ∷ xs) = omega arith in
+      rw (get_or-map show (x ∷ xs) (k + 1) x d high, get_or-map show (x ∷ xs) k x d below) (up k x (omega arith) high)

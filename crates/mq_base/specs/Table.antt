@@ -1,5 +1,5 @@
 -- The content of a table as rows, and the form that it has. docs/FORMATS.md, "Table file", says the limits.
-use Rattle.std.specs.Prelude.{◌≡◌, ℕ, zero, suc, ◌≤◌, List, [], ◌∷◌, ◌++◌, length, slice_get, option_to_list, All}
+use Rattle.std.specs.Prelude.{◌≡◌, ℕ, zero, suc, ◌≤◌, List, [], ◌∷◌, length, filter_map, slice_get, All}
 use Rattle.std.specs.List.{AllZip}
 use Rattle.mq_base.specs.declared.value.Value.{Value}
 use Rattle.mq_base.specs.declared.schema.AttrInfo.{AttrInfo}
@@ -10,8 +10,7 @@ use Rattle.mq_base.specs.Schema.{columns_of}
 
 -- the row at a place: the value of each column there
 abbrev pub row_at : List (List Value) → ℕ → List Value
-row_at [] row = []
-row_at (column ∷ columns) row = option_to_list (slice_get column row) ++ row_at columns row
+row_at columns row = filter_map (λ column. slice_get column row) columns
 
 -- n rows from a place on
 abbrev pub rows_from : List (List Value) → ℕ → ℕ → List (List Value)

@@ -1,10 +1,12 @@
 -- The order of values is a total one, and ties are one value.
-use Rattle.std.proofs.Common.{◌≡◌, Bool, true, false, Some, refl, sym, ap, List, ℕ, rules}
-use Rattle.std.specs.Ordering.{eq_by_cmp, is_eq, ordering_reverse}
+use Rattle.std.proofs.Common.{◌≡◌, Bool, true, false, Some, refl, sym, ◌∙◌, ap, List, ℕ}
+use Rattle.std.proofs.lemmas.Bool.{eqb-true}
+use Rattle.std.specs.Ordering.{eq_by_cmp, is_eq, nat_cmp, ordering_reverse}
 use Rattle.std.specs.declared.cmp.Ordering.{Ordering}
 use Rattle.std.specs.declared.cmp.Ordering.TheVariants.{Less, Equal, Greater}
-use Rattle.std.specs.Cmp.{IsTotalOrder, IsEquivalence, IsPartialEquivalence, IsPartialOrder, int_cmp_total, partial_equiv_from_equiv, eq_by_cmp_equiv, partial_order_from_own_ties}
+use Rattle.std.specs.Cmp.{IsTotalOrder, IsEquivalence, IsPartialEquivalence, IsPartialOrder, int_cmp_total, signed_Decides, unsigned_tied, partial_equiv_from_equiv, eq_by_cmp_equiv, partial_order_from_own_ties}
 use Rattle.std.specs.Cmp.Lexicographic.{slice_cmp, nat_list_cmp_total}
+use Rattle.base_laws.proofs.SortLaws.{lists_tied}
 use Rattle.mq_base.specs.declared.value.Value.{Value}
 use Rattle.mq_base.specs.declared.value.Value.TheVariants.{Int, Text}
 use Rattle.mq_base.specs.Value.{value_cmp, value_eq}
@@ -39,3 +41,13 @@ value_total = record { antisymm = antisymm; trans = trans; congr = congr }
 -- being one value is an equivalence
 pub value_equiv : IsEquivalence value_eq
 value_equiv = eq_by_cmp_equiv value_total
+
+-- a tie of values is one value
+pub value_ties : (x y : Value) → value_cmp x y ≡ Equal → x ≡ y
+value_ties (Int x) (Int y) tied = ap Int ((signed_Decides x y).0 (ap is_eq tied))
+value_ties (Int x) (Text t) tied = cc
+value_ties (Text s) (Int y) tied = cc
+value_ties (Text s) (Text t) tied = ap Text (lists_tied nat_cmp nat_ties s t tied)
+  where
+  nat_ties : (a b : ℕ) → nat_cmp a b ≡ Equal → a ≡ b
+  nat_ties a b same = eqb-true a b (sym (unsigned_tied a b) ∙ ap is_eq same)
