@@ -33,7 +33,7 @@ fn xor_onto(target: &mut [u8], bytes: &[u8])
 }
 
 // Xors the mask of `right` onto `left`. One hash covers a half of up to 32 bytes.
-fn mask_onto(left: &mut [u8], key: &[u8; 32], round: u8, right: &[u8])
+fn mask_onto(key: &[u8; 32], round: u8, left: &mut [u8], right: &[u8])
     requires short { length right.now ≤ 61 }
     requires same_length { length left.old ≡ length right.now }
     ensures { left.new ≡ xored left.old (mask key.now round right.now) }
@@ -57,7 +57,7 @@ pub(crate) fn turn(key: &[u8; 32], round: u8, left: &mut [u8], right: &mut [u8])
     ensures { turned key.now round (record { left = left.old; right = right.old })
         ≡ record { left = left.new; right = right.new } }
 {
-    mask_onto(left, key, round, right);
+    mask_onto(key, round, left, right);
     left.swap_with_slice(right);
 }
 
@@ -70,5 +70,5 @@ pub(crate) fn turn_back(key: &[u8; 32], round: u8, left: &mut [u8], right: &mut 
         ≡ record { left = left.old; right = right.old } }
 {
     left.swap_with_slice(right);
-    mask_onto(left, key, round, right);
+    mask_onto(key, round, left, right);
 }

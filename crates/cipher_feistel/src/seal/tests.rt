@@ -1,3 +1,5 @@
+ghost use Rattle.std.specs.Prelude.{◌<◌};
+
 use super::{seal_into, unseal_into};
 use std::alloc::{AllocError, Global};
 use std::test::Fail;
