@@ -69,6 +69,6 @@ pub(crate) fn turn_back(key: &[u8; 32], round: u8, left: &mut [u8], right: &mut 
     ensures { turned key.now round (record { left = left.new; right = right.new })
         ≡ record { left = left.old; right = right.old } }
 {
-    left.swap_with_slice(right);
+    right.swap_with_slice(left);
     mask_onto(key, round, left, right);
 }
