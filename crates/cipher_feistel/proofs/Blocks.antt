@@ -1,5 +1,5 @@
 -- Blocks and their halves, and that blocks of one even length have equal cells only where they are equal.
-use Rattle.std.proofs.Common.{◌≡◌, ℕ, ◌+◌, ◌*◌, ◌/◌, ◌%◌, ◌-◌, ◌≤◌, List, ◌++◌, length, take, drop, ap, arith, refl, sym, ◌∙◌, length-append}
+use Rattle.std.proofs.Common.{◌≡◌, ℕ, ◌*◌, ◌/◌, ◌%◌, ◌≤◌, List, ◌++◌, length, take, drop, ap, arith, refl, sym, ◌∙◌, length-append}
 use Rattle.std.proofs.lemmas.List.{length-take-le, length-drop, take_at, drop_at, take-append-drop}
 use Rattle.cipher_feistel.specs.Feistel.{Halves, after_rounds, halves_of, joined, sealed}
 use Rattle.cipher_feistel.proofs.Rounds.{HasLengths, after_rounds_cancel, after_rounds_lengths}

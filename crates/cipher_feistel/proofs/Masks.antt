@@ -1,5 +1,5 @@
 -- A round's mask: its length, and how many hashes a half needs.
-use Rattle.std.proofs.Common.{◌≡◌, ℕ, ◌≤◌, List, ◌++◌, length, take, ap, arith, ◌∙◌, length-append}
+use Rattle.std.proofs.Common.{◌≡◌, ℕ, ◌≤◌, List, ◌++◌, length, arith, length-append}
 use Rattle.std.proofs.lemmas.List.{length-take-le}
 use Rattle.sha2.proofs.Facts256.{length-sha256}
 use Rattle.cipher_feistel.specs.Feistel.{mask, round_hash, xored}

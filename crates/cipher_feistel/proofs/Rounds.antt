@@ -9,7 +9,7 @@ pub record HasLengths (h : Halves) (n : ℕ) : Type 0 where
   pub of_left : length h.left ≡ n
   pub of_right : length h.right ≡ n
 
--- a round turns back what the same mask made
+-- where the mask of the left half was xored onto the right one, a round takes it off and puts both in their places
 pub turned_back : (key : List ℕ) (round : ℕ) (left right : List ℕ) → length left ≡ length right → length left ≤ 64 →
     turned key round (record { left = xored right (mask key round left); right = left }) ≡ record { left = left; right = right }
 unfolding turned

@@ -1,10 +1,9 @@
 -- Lists xored byte by byte: lengths, fronts, and that the same xor twice gives the list back.
-use Rattle.std.proofs.Common.{◌≡◌, ℕ, suc, zero, ◌+◌, ◌<◌, ◌≤◌, List, [], ◌∷◌, ◌++◌, length, get_or, take, drop, set, refl, ap, arith, append-nil, add-one, ◌∙◌}
+use Rattle.std.proofs.Common.{◌≡◌, ℕ, suc, zero, ◌+◌, ◌<◌, ◌≤◌, List, [], ◌∷◌, ◌++◌, length, get_or, take, drop, set, refl, ap, arith, add-one, ◌∙◌}
 use Rattle.std.specs.Prelude.{bit_xor}
 use Rattle.std.specs.Int.Bits.{xor_assoc, xor_self, xor_zero_r}
 use Rattle.std.specs.Simd.Lanes.{zip2}
 use Rattle.std.proofs.lemmas.Simd.{length-zip2}
-use Rattle.std.proofs.lemmas.List.{take_all, drop_all}
 use Rattle.cipher_feistel.specs.Feistel.{xored}
 
 -- a list xored with one as long keeps its length
@@ -69,7 +68,3 @@ pub xored_more : (now xs ys : List ℕ) (i : ℕ) → i < length xs → i < leng
     set now i (bit_xor (get_or now i 0) (get_or ys i 0)) ≡ xored (take (i + 1) xs) ys ++ drop (i + 1) xs
 xored_more now xs ys i h k e =
     ap (λ zs. set zs i (bit_xor (get_or zs i 0) (get_or ys i 0))) e ∙ rw (add-one i) (xored_next xs ys i h k)
-
--- all are
-pub xored_all : (xs ys : List ℕ) (n : ℕ) → length xs ≤ n → xored (take n xs) ys ++ drop n xs ≡ xored xs ys
-xored_all xs ys n h = rw (take_all n xs h, drop_all n xs h) (append-nil (xored xs ys))

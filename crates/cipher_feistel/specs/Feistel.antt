@@ -9,7 +9,7 @@ pub record Halves : Type 0 where
   pub left : List ℕ
   pub right : List ℕ
 
--- The bytes of a list, each xored with the byte at its place in the other list.
+-- The bytes of a list, each xored with the byte at its place in the other list, as far as both go.
 unfoldable pub xored : List ℕ → List ℕ → List ℕ
 xored bytes others = zip2 bit_xor bytes others
 

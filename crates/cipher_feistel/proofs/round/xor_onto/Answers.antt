@@ -1,5 +1,5 @@
-use Rattle.std.proofs.Common.{ap, arith, ◌∙◌}
-use Rattle.cipher_feistel.proofs.Xored.{xored_all, xored_more, xored_none}
+use Rattle.std.proofs.Common.{arith}
+use Rattle.cipher_feistel.proofs.Xored.{xored_more, xored_none}
 use Rattle.cipher_feistel.proofs.round.xor_onto.Goals as goal
 
 pub loop-i-init : goal.loop-i-init

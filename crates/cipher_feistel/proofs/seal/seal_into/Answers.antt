@@ -1,5 +1,5 @@
-use Rattle.std.proofs.Common.{◌≡◌, arith, sym, ◌∙◌}
-use Rattle.cipher_feistel.specs.Feistel.{halves_of, sealed}
+use Rattle.std.proofs.Common.{arith, ◌∙◌}
+use Rattle.cipher_feistel.specs.Feistel.{halves_of}
 use Rattle.cipher_feistel.proofs.Blocks.{halves_cut, sealed_cancel, sealed_from_rounds}
 use Rattle.cipher_feistel.proofs.Rounds.{after_rounds_more, after_rounds_none}
 use Rattle.cipher_feistel.proofs.seal.seal_into.Goals as goal

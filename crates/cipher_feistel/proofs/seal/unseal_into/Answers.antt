@@ -1,5 +1,5 @@
-use Rattle.std.proofs.Common.{◌≡◌, ◌%◌, ◌++◌, ◌≤◌, length, arith, sym, ◌∙◌, length-append}
-use Rattle.cipher_feistel.specs.Feistel.{Halves, halves_of, sealed}
+use Rattle.std.proofs.Common.{◌++◌, arith, sym, ◌∙◌, length-append}
+use Rattle.cipher_feistel.specs.Feistel.{Halves}
 use Rattle.cipher_feistel.proofs.Blocks.{halves_cut, sealed_cancel, sealed_from_halves}
 use Rattle.cipher_feistel.proofs.Rounds.{after_rounds_last, after_rounds_none}
 use Rattle.cipher_feistel.proofs.seal.unseal_into.Goals as goal
