@@ -1,0 +1,4 @@
+pub mod Xored
+pub mod Masks
+pub mod Rounds
+pub mod Blocks
