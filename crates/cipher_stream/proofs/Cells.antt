@@ -43,11 +43,8 @@ opened key cell part out step row step_is row_is part_is out_is = rw (step_is, r
 pub block_of_sealed : (key : List ℕ) (step row : ℕ) (block cell : List ℕ) → step < 2 ^ 32 → row < 2 ^ 64 → sealed key step row block ≡ cell
     → block ≡ covered (seed_of key (step_of cell)) (row_of cell) (drop 12 cell)
 block_of_sealed key step row block cell small_step small_row is =
-    sym (covered_from-covered_from (seed_of key step) row 0 block)
-    ∙ ap (covered (seed_of key step) row) (sym (sealed_rest key step row block))
-    ∙ ap (λ (s : ℕ). covered (seed_of key s) row (drop 12 (sealed key step row block))) (sym (sealed_step key step row block small_step))
-    ∙ ap (λ (r : ℕ). covered (seed_of key (step_of (sealed key step row block))) r (drop 12 (sealed key step row block))) (sym (sealed_row key step row block small_row))
-    ∙ ap (λ (c : List ℕ). covered (seed_of key (step_of c)) (row_of c) (drop 12 c)) is
+    rw (← is, sealed_step key step row block small_step, sealed_row key step row block small_row, sealed_rest key step row block, covered_from-covered_from (seed_of key step) row 0 block)
+    refl
 
 -- each element of a part of a list of bytes is a byte
 bytes_of_take : (xs : List ℕ) (n : ℕ) → ((i : ℕ) → get_or xs i 0 < 256) → (i : ℕ) → get_or (take n xs) i 0 < 256

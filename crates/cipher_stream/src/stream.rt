@@ -8,13 +8,12 @@ use sha2::{Digest, Sha256};
 // The bytes of the longest block.
 const LONGEST: usize = 122;
 
-// What stands between the key and the step where they are hashed, so that no other use of the key
-// hashes the same bytes.
+// The byte between the key and the step in what is hashed, which marks this use of the key.
 const MARK: u8 = 82;
 
 // Xors the stream of a key, a step and a row onto a block. The same call again takes it off.
 pub(crate) fn cover(key: &[u8; 32], step: u32, row: u64, block: &mut [u8])
-    requires { length block.old ≤ 122 }
+    requires { length block.old ≤ LONGEST }
     ensures { block.new ≡ covered (seed_of key.now step) row block.old }
 {
     let mut stream = [0; LONGEST];
@@ -38,7 +37,7 @@ fn seed(key: &[u8; 32], step: u32) -> [u8; 32]
 
 // Fills `stream` with the first bytes of a row's stream.
 fn draw(seed: [u8; 32], row: u64, stream: &mut [u8])
-    requires { length stream.old ≤ 122 }
+    requires { length stream.old ≤ LONGEST }
     ensures { EachIndex stream.new (λ place. slice_index stream.new place ≡ stream_byte seed row place) }
 {
     let mut generator = ChaCha20Rng::from_seed(seed);
