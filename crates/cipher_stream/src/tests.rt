@@ -8,8 +8,8 @@ const MIXED: [u8; 32] =
     *b"\x82\x54\xc3\x29\xa9\x28\x50\xf6\xd5\x39\xdd\x37\x6f\x48\x16\xee\x27\x64\x51\x7d\
     \xa5\xe0\x23\x55\x14\xaf\x43\x31\x64\x48\x0d\x7a";
 
-// A key, a step, a row, a block, and the cell that a program of another language made of them: of
-// integers and of texts, and of short blocks.
+// A key, a step, a row, a block, and its cell as it was computed in Python: blocks of integers, of
+// texts, and short ones.
 const ROWS: [(&[u8; 32], u32, u64, &[u8], &[u8]); 12] = [
     (
         &MIXED,
