@@ -1,0 +1,11 @@
+//! The randomised seal: a block of bytes under the stream of a key, a step and a row, and back.
+//!
+//! It is one of the crates of ciphers at the bottom, and stands on the kit's crates alone.
+#![tactic(auto)]
+
+mod cell;
+mod stream;
+#[cfg(test)]
+mod tests;
+
+pub use cell::{seal_into, unseal_into};
