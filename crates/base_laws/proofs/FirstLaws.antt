@@ -1,5 +1,5 @@
 -- Laws of the first fault: what a search for it keeps from place to place, and what it finds.
-use Rattle.std.proofs.Common.{◌≡◌, ℕ, zero, suc, ◌+◌, ◌-◌, ◌<◌, ◌≤◌, Option, Some, None, refl, sym, ◌∙◌, ap, arith, add-one, ◌⊎◌, inl, inr}
+use Rattle.std.proofs.Common.{◌≡◌, ℕ, zero, suc, ◌+◌, ◌-◌, ◌<◌, ◌≤◌, Option, Some, None, refl, arith, add-one, ◌⊎◌, inl, inr}
 use Rattle.base_laws.specs.Firsts.{or_else, first_at, IsFirstAt}
 
 -- where a place passes, the places after it decide
@@ -29,9 +29,9 @@ this_or_later k start low = grind arith
 at_each : (P : ℕ → Type 0) (start k : ℕ) → start ≤ k → P start → (suc start ≤ k → P k) → P k
 at_each P start k low here later = by_place (this_or_later k start low)
   where
-  by_place : (k ≡ start) ⊎ (suc start ≤ k) → P k
-  by_place (inl same) = rw same here
-  by_place (inr after) = later after
+    by_place : (k ≡ start) ⊎ (suc start ≤ k) → P k
+    by_place (inl same) = rw same here
+    by_place (inr after) = later after
 
 none_left : {F : Type 0} (here rest : Option F) → or_else here rest ≡ None → (here ≡ None) × (rest ≡ None)
 none_left None rest none = (refl, none)
@@ -52,12 +52,18 @@ found_later test start n fault passes first = record {
   from = (let h : suc start ≤ first.place = first.from in omega arith);
   below = (let h : first.place < suc start + n = first.below in omega arith);
   found = first.found;
-  before = λ k low high. at_each (λ k. test k ≡ None) start k low passes (λ after. first.before k after high) }
+  before = λ k low high. at_each (λ k. test k ≡ None) start k low passes (λ after. first.before k after high);
+}
 
 found_here : {F : Type 0} (test : ℕ → Option F) (start n : ℕ) (fault : F) → test start ≡ Some fault
     → IsFirstAt test start (suc n) fault
 found_here test start n fault found = record {
-  place = start; from = omega arith; below = omega arith; found = found; before = λ k low high. absurd (omega arith) }
+  place = start;
+  from = omega arith;
+  below = omega arith;
+  found = found;
+  before = λ k low high. absurd (omega arith);
+}
 
 one_of_both : {F : Type 0} (here rest : Option F) (fault : F) → or_else here rest ≡ Some fault
     → (here ≡ Some fault) ⊎ ((here ≡ None) × (rest ≡ Some fault))
@@ -71,8 +77,8 @@ first_at-some test start zero fault found = cc
 first_at-some test start (suc n) fault found =
     by_place (one_of_both (test start) (first_at test (suc start) n) fault found) (first_at-some test (suc start) n fault)
   where
-  by_place : (test start ≡ Some fault) ⊎ ((test start ≡ None) × (first_at test (suc start) n ≡ Some fault))
-      → (first_at test (suc start) n ≡ Some fault → IsFirstAt test (suc start) n fault)
-      → IsFirstAt test start (suc n) fault
-  by_place (inl here) later = found_here test start n fault here
-  by_place (inr after) later = found_later test start n fault after.0 (later after.1)
+    by_place : (test start ≡ Some fault) ⊎ ((test start ≡ None) × (first_at test (suc start) n ≡ Some fault))
+        → (first_at test (suc start) n ≡ Some fault → IsFirstAt test (suc start) n fault)
+        → IsFirstAt test start (suc n) fault
+    by_place (inl here) later = found_here test start n fault here
+    by_place (inr after) later = found_later test start n fault after.0 (later after.1)

@@ -1,11 +1,11 @@
 -- Laws of sets as numbers: membership in what is made of sets, and inclusion.
-use Rattle.std.proofs.Common.{◌≡◌, ◌≢◌, ℕ, zero, suc, ◌^◌, ◌+◌, ◌%◌, ◌<◌, ◌≤◌, ◌==◌, Bool, true, false, ◌||◌, ◌&&◌, not, min, max, bit_and, bit_or, bit_xor, refl, sym, ◌∙◌, ap, arith, rules, ◌⊎◌, inl, inr}
+use Rattle.std.proofs.Common.{◌≡◌, ◌≢◌, ℕ, zero, suc, ◌^◌, ◌+◌, ◌%◌, ◌<◌, ◌==◌, Bool, true, false, ◌||◌, ◌&&◌, not, min, max, bit_and, bit_or, refl, sym, ◌∙◌, arith, ◌⊎◌, inl, inr}
 use Rattle.std.specs.Prelude.{IsTrue}
 use Rattle.std.specs.Int.{bit_at, trailing_zeros, w64}
 use Rattle.std.proofs.lemmas.Nat.Bits.{bit_at_or, bit_at_and, bit_at_xor, bit_at-lt, bit_at-pow_same, bit_at-pow_other, bit_at-zero, bit_at-trailing_zeros, same_from_bits}
 use Rattle.std.proofs.lemmas.Bool.Decides.{nat_tests}
 use Rattle.base_laws.specs.Folds.{union_to}
-use Rattle.base_laws.specs.Sets.{has, with_member, without, IsWithin, is_within, IsLeastMember}
+use Rattle.base_laws.specs.Sets.{has, without, IsWithin, is_within, IsLeastMember}
 
 bit_is : (b : ℕ) → b < 2 → (b ≡ 0) ⊎ (b ≡ 1)
 bit_is b small = grind arith
@@ -38,11 +38,11 @@ has-empty i = rw bit_at-zero refl
 xor_test : (a b : ℕ) → a < 2 → b < 2 → ((a + min a b) % 2 == 1) ≡ ((a == 1) && not (b == 1))
 xor_test a b small_a small_b = by_bits (bit_is a small_a) (bit_is b small_b)
   where
-  by_bits : (a ≡ 0) ⊎ (a ≡ 1) → (b ≡ 0) ⊎ (b ≡ 1) → ((a + min a b) % 2 == 1) ≡ ((a == 1) && not (b == 1))
-  by_bits (inl p) (inl q) = rw (p, q) refl
-  by_bits (inl p) (inr q) = rw (p, q) refl
-  by_bits (inr p) (inl q) = rw (p, q) refl
-  by_bits (inr p) (inr q) = rw (p, q) refl
+    by_bits : (a ≡ 0) ⊎ (a ≡ 1) → (b ≡ 0) ⊎ (b ≡ 1) → ((a + min a b) % 2 == 1) ≡ ((a == 1) && not (b == 1))
+    by_bits (inl p) (inl q) = rw (p, q) refl
+    by_bits (inl p) (inr q) = rw (p, q) refl
+    by_bits (inr p) (inl q) = rw (p, q) refl
+    by_bits (inr p) (inr q) = rw (p, q) refl
 
 -- a member of the first set that is none of the second
 pub has-without : (s t i : ℕ) → has (without s t) i ≡ (has s i && not (has t i))
@@ -52,11 +52,11 @@ has-without s t i =
 bit_from_has : (a b : ℕ) → a < 2 → b < 2 → (a == 1) ≡ (b == 1) → a ≡ b
 bit_from_has a b small_a small_b same = by_bits (bit_is a small_a) (bit_is b small_b)
   where
-  by_bits : (a ≡ 0) ⊎ (a ≡ 1) → (b ≡ 0) ⊎ (b ≡ 1) → a ≡ b
-  by_bits (inl p) (inl q) = cc
-  by_bits (inl p) (inr q) = let h : (0 == 1) ≡ (1 == 1) = rw (p, q) at same in cc
-  by_bits (inr p) (inl q) = let h : (1 == 1) ≡ (0 == 1) = rw (p, q) at same in cc
-  by_bits (inr p) (inr q) = cc
+    by_bits : (a ≡ 0) ⊎ (a ≡ 1) → (b ≡ 0) ⊎ (b ≡ 1) → a ≡ b
+    by_bits (inl p) (inl q) = cc
+    by_bits (inl p) (inr q) = let h : (0 == 1) ≡ (1 == 1) = rw (p, q) at same in cc
+    by_bits (inr p) (inl q) = let h : (1 == 1) ≡ (0 == 1) = rw (p, q) at same in cc
+    by_bits (inr p) (inr q) = cc
 
 -- two sets with the same members are one
 pub same_members : (s t : ℕ) → ((i : ℕ) → has s i ≡ has t i) → s ≡ t
@@ -67,18 +67,18 @@ same_members s t same =
 pub within_from_union : (s t : ℕ) → bit_or s t ≡ t → IsWithin s t
 within_from_union s t whole = record { member = λ i inside. member_of i inside }
   where
-  member_of : (i : ℕ) → has s i ≡ true → has t i ≡ true
-  member_of i inside =
-    let both : has (bit_or s t) i ≡ (has s i || has t i) = has-bit_or s t i in
-    let left : has t i ≡ (has s i || has t i) = rw whole at both in
-    rw inside at left
+    member_of : (i : ℕ) → has s i ≡ true → has t i ≡ true
+    member_of i inside =
+        let both : has (bit_or s t) i ≡ (has s i || has t i) = has-bit_or s t i in
+        let left : has t i ≡ (has s i || has t i) = rw whole at both in
+        rw inside at left
 
 pub union_from_within : (s t : ℕ) → IsWithin s t → bit_or s t ≡ t
 union_from_within s t within = same_members (bit_or s t) t (λ i. each i (has s i) refl)
   where
-  each : (i : ℕ) (b : Bool) → has s i ≡ b → has (bit_or s t) i ≡ has t i
-  each i true inside = rw (has-bit_or, inside) (sym (within.member i inside))
-  each i false outside = rw (has-bit_or, outside) refl
+    each : (i : ℕ) (b : Bool) → has s i ≡ b → has (bit_or s t) i ≡ has t i
+    each i true inside = rw (has-bit_or, inside) (sym (within.member i inside))
+    each i false outside = rw (has-bit_or, outside) refl
 
 union_test : (s t : ℕ) → is_within s t ≡ true → bit_or s t ≡ t
 union_test s t holds = grind (arith, nat_tests)
@@ -99,10 +99,11 @@ least_from_lowest s some fits =
     let lowest = bit_at-trailing_zeros w64 s some fits in
     record {
       member = rw lowest.1 refl;
-      least = λ k below. is_out k (lowest.2 k below) }
+      least = λ k below. is_out k (lowest.2 k below);
+    }
   where
-  is_out : (k : ℕ) → bit_at s k ≡ 0 → has s k ≡ false
-  is_out k zero_there = rw zero_there refl
+    is_out : (k : ℕ) → bit_at s k ≡ 0 → has s k ≡ false
+    is_out k zero_there = rw zero_there refl
 
 -- a set has no member exactly where it is 0
 pub empty_from_none : (s : ℕ) → ((i : ℕ) → has s i ≡ false) → s ≡ 0
@@ -114,13 +115,16 @@ has-union_to set zero i k below inside = absurd (omega arith)
 has-union_to set (suc n) i k below inside =
     by_place (last_or_before k n below) (λ before. has-union_to set n i k before inside)
   where
-  last_or_before : (k n : ℕ) → k < suc n → (k ≡ n) ⊎ (k < n)
-  last_or_before k n below = grind arith
-  either_true : (a b : Bool) → a ≡ true → (a || b) ≡ true
-  either_true a b holds = rw holds refl
-  or_true : (a b : Bool) → b ≡ true → (a || b) ≡ true
-  or_true true b holds = refl
-  or_true false b holds = holds
-  by_place : (k ≡ n) ⊎ (k < n) → (k < n → has (union_to set n) i ≡ true) → has (bit_or (union_to set n) (set n)) i ≡ true
-  by_place (inl same) earlier = rw has-bit_or (or_true _ _ (rw same at inside))
-  by_place (inr before) earlier = rw has-bit_or (either_true _ _ (earlier before))
+    last_or_before : (k n : ℕ) → k < suc n → (k ≡ n) ⊎ (k < n)
+    last_or_before k n below = grind arith
+
+    either_true : (a b : Bool) → a ≡ true → (a || b) ≡ true
+    either_true a b holds = rw holds refl
+
+    or_true : (a b : Bool) → b ≡ true → (a || b) ≡ true
+    or_true true b holds = refl
+    or_true false b holds = holds
+
+    by_place : (k ≡ n) ⊎ (k < n) → (k < n → has (union_to set n) i ≡ true) → has (bit_or (union_to set n) (set n)) i ≡ true
+    by_place (inl same) earlier = rw has-bit_or (or_true _ _ (rw same at inside))
+    by_place (inr before) earlier = rw has-bit_or (either_true _ _ (earlier before))

@@ -49,5 +49,5 @@ value_ties (Int x) (Text t) tied = cc
 value_ties (Text s) (Int y) tied = cc
 value_ties (Text s) (Text t) tied = ap Text (lists_tied nat_cmp nat_ties s t tied)
   where
-  nat_ties : (a b : ℕ) → nat_cmp a b ≡ Equal → a ≡ b
-  nat_ties a b same = eqb-true a b (sym (unsigned_tied a b) ∙ ap is_eq same)
+    nat_ties : (a b : ℕ) → nat_cmp a b ≡ Equal → a ≡ b
+    nat_ties a b same = eqb-true a b (sym (unsigned_tied a b) ∙ ap is_eq same)
