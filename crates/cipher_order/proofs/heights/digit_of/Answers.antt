@@ -1,4 +1,4 @@
-use Rattle.std.proofs.Common.{◌<◌, refl, ap, arith, below_more}
+use Rattle.std.proofs.Common.{◌<◌, refl, arith, below_more}
 use Rattle.cipher_order.specs.Order.{height}
 use Rattle.cipher_order.proofs.Rising.{at_hand_more, gap_limit, height_is, none_as_high, risen_limit, risen_more, risen_none}
 use Rattle.cipher_order.proofs.heights.digit_of.Goals as goal
