@@ -1,6 +1,6 @@
 -- A cell is a front's cell and then the rest's; cells of strings of one length are ordered as the
 -- strings are, so that each cell has at most one string.
-use Rattle.std.proofs.Common.{◌≡◌, ◌≢◌, ℕ, zero, suc, ◌+◌, ◌*◌, ◌/◌, ◌%◌, ◌^◌, ◌<◌, ◌≤◌, List, [], ◌∷◌, ◌++◌, length, take, drop, get_or, ap, sym, ◌∙◌, arith, refl, inl, inr, append_assoc, nat_cmp, Ordering}
+use Rattle.std.proofs.Common.{◌≡◌, ◌≢◌, ℕ, suc, ◌+◌, ◌*◌, ◌/◌, ◌%◌, ◌^◌, ◌<◌, ◌≤◌, List, [], ◌∷◌, ◌++◌, length, take, drop, get_or, ap, sym, ◌∙◌, arith, refl, inl, inr, append_assoc, nat_cmp, Ordering}
 use Rattle.std.specs.Cmp.{nat_cmp_is}
 use Rattle.std.specs.Cmp.Lexicographic.{slice_cmp}
 use Rattle.std.specs.Int.{w16, from_be_bytes}
@@ -90,13 +90,6 @@ numbers_ordered x y xs ys x_fits y_fits =
 -- the digits after the first are digits
 IsDigits-tail : (x : ℕ) (xs : List ℕ) → IsDigits (x ∷ xs) → IsDigits xs
 IsDigits-tail x xs h = λ k d within. h (suc k) d (omega arith)
-
--- a digit after digits
-pub IsDigits_push : (xs : List ℕ) (y : ℕ) → IsDigits xs → y ≤ 256 → IsDigits (xs ++ y ∷ [])
-IsDigits_push [] y xs_ok y_ok zero d within = y_ok
-IsDigits_push [] y xs_ok y_ok (suc k) d within = absurd (omega arith)
-IsDigits_push (x ∷ xs) y xs_ok y_ok zero d within = xs_ok 0 d (omega arith)
-IsDigits_push (x ∷ xs) y xs_ok y_ok (suc k) d within = IsDigits_push xs y (IsDigits-tail x xs xs_ok) y_ok k d (omega arith)
 
 sealed_from_ordered : (key earlier xs ys : List ℕ) → length xs ≡ length ys → IsDigits xs → IsDigits ys → slice_cmp nat_cmp (sealed_from key earlier xs) (sealed_from key earlier ys) ≡ slice_cmp nat_cmp xs ys
 unfolding sealed_from

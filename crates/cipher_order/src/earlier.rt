@@ -2,6 +2,7 @@
 
 ghost use Rattle.std.specs.Prelude.{◌≡◌, ℕ, ◌+◌, ◌*◌, ◌<◌, ◌≤◌, List, [], ◌∷◌, ◌++◌, length, take};
 ghost use Rattle.std.specs.List.{flat_map};
+ghost use Rattle.cipher_order.specs.declared.earlier.TheConstants.{MOST_DIGITS};
 ghost use Rattle.cipher_order.specs.Order.{digit_bytes};
 
 use std::marker::Model;
@@ -12,8 +13,8 @@ pub(crate) const MOST_DIGITS: usize = 120;
 /// The digits before a position, and beside them their spelling as the hash reads it.
 #[derive(Drop)]
 pub(crate) struct Earlier {
-    digits: [u16; 120],
-    spelling: [u8; 240],
+    digits: [u16; MOST_DIGITS],
+    spelling: [u8; 2 * MOST_DIGITS],
     count: usize,
 }
 
@@ -23,7 +24,7 @@ impl Model for Earlier {
 
     ghost view = { λ e. take e.count e.digits };
 
-    ghost invariant = { λ e. (e.count ≤ 120)
+    ghost invariant = { λ e. (e.count ≤ MOST_DIGITS)
         × (take (2 * e.count) e.spelling ≡ flat_map digit_bytes (take e.count e.digits)) };
 }
 
@@ -33,8 +34,8 @@ impl Earlier {
         ensures { result ≡ [] }
     {
         Earlier {
-            digits: [0; 120],
-            spelling: [0; 240],
+            digits: [0; MOST_DIGITS],
+            spelling: [0; 2 * MOST_DIGITS],
             count: 0,
         }
     }

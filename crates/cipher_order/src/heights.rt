@@ -24,9 +24,9 @@ fn gap_block(key: &[u8; 32], earlier: &Earlier, block: u8) -> [u8; 32]
     hasher.finalize()
 }
 
-#[tactic(auto, unfolding(crate::specs::Order::gap))]
 // The gap of `digit`. A digit that begins a block has the block hashed into `block`; the digits
 // after it find it there.
+#[tactic(auto, unfolding(crate::specs::Order::gap))]
 fn next_gap(key: &[u8; 32], earlier: &Earlier, digit: u16, block: &mut [u8; 32]) -> u16
     requires small { digit ≤ 256 }
     requires at_hand { digit % 32 ≢ 0 → block.old ≡ gap_block key.now earlier.now (digit / 32) }

@@ -1,6 +1,6 @@
 // The seal of a whole string of digits, and back.
 
-ghost use Rattle.std.specs.Prelude.{◌≡◌, ℕ, ◌*◌, ◌≤◌, List, length, OnOk, OnErr};
+ghost use Rattle.std.specs.Prelude.{◌≡◌, ℕ, ◌*◌, ◌≤◌, List, length, Some, codes, OnOk, OnErr};
 ghost use Rattle.std.specs.Cmp.Lexicographic.{slice_cmp};
 ghost use Rattle.std.specs.Ordering.{nat_cmp};
 ghost use Rattle.cipher_order.specs.Order.{IsDigits, sealed};
@@ -10,11 +10,14 @@ use crate::heights::{digit_of, height};
 use std::error::Error;
 use std::fmt;
 
-/// No string of digits of the wanted length has the cell as its seal.
+/// No string of digits of the wanted length has the cell as its seal (docs/CIPHERS.md,
+/// "Order-preserving seal").
 #[derive(Debug, Clone, Copy, PartialEq, Eq)]
 pub struct NotSealed;
 
 impl fmt::Display for NotSealed {
+    ghost output = { λ _. Some (codes "the cell is not sealed under this key") };
+
     fn fmt<W: fmt::Write>(&self, f: &mut fmt::Formatter<W>) -> fmt::Result {
         f.write_str("the cell is not sealed under this key")
     }

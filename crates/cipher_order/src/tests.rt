@@ -19,7 +19,8 @@ struct Row {
     cell: &'static [u8],
 }
 
-// An INT under three keys, two TEXTs, and a short string that reaches both ends of a block.
+// An INT under three keys, two TEXTs, and a short string with the least and the greatest digit and
+// both ends of a block of gaps. The cells were computed apart, by another program.
 const ROWS: [Row; 6] = [
     Row {
         key: ZEROS,
@@ -117,7 +118,7 @@ const ROWS: [Row; 6] = [
     },
 ];
 
-// INT -1, 0 and 5.
+// The digits of INT -1, 0 and 5, whose cells ascend.
 const ASCENDING: [Row; 3] = [
     Row {
         key: ZEROS,

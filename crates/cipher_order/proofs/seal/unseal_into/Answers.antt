@@ -1,8 +1,9 @@
-use Rattle.std.proofs.Common.{◌≡◌, ◌+◌, ◌*◌, length, ap, sym, ◌∙◌, arith}
+use Rattle.std.proofs.Common.{◌≡◌, ◌≤◌, ◌+◌, ◌*◌, length, ap, sym, ◌∙◌, arith}
 use Rattle.std.proofs.lemmas.Grind.{common_steps}
 use Rattle.std.proofs.lemmas.List.{length_push}
+use Rattle.std.proofs.lemmas.List.Elements.{All-push}
 use Rattle.cipher_order.specs.Order.{sealed}
-use Rattle.cipher_order.proofs.Order.{IsDigits_push, not_sealed, sealed_distinct, sealed_none, sealed_push}
+use Rattle.cipher_order.proofs.Order.{not_sealed, sealed_distinct, sealed_none, sealed_push}
 use Rattle.cipher_order.proofs.seal.unseal_into.Goals as goal
 
 pub loop-at-init : goal.loop-at-init
@@ -20,7 +21,7 @@ loop-at-preserved c =
     let twice : 2 * (at + 1) ≡ 2 * at + 2 = omega arith in
     record {
       count = omega (arith, ap length c.push.ensures, length_push c.loop-at.found c.in-Some.digit);
-      digits = rw c.push.ensures (IsDigits_push _ _ c.loop-at.invariant.digits c.in-Some.ensures.digit);
+      digits = rw c.push.ensures (All-push (λ d. d ≤ 256) _ _ c.loop-at.invariant.digits c.in-Some.ensures.digit);
       front = rw (twice, c.push.ensures, sealed_push) (cc (c.in-Some.ensures.found));
     }
 
