@@ -1,0 +1,11 @@
+//! The order-preserving seal: a string of digits becomes a cell of twice as many bytes, and cells
+//! are ordered as their strings are. It is the lowest layer and stands on SHA-256 alone.
+#![tactic(auto)]
+
+mod earlier;
+mod heights;
+mod seal;
+#[cfg(test)]
+mod tests;
+
+pub use seal::{NotSealed, seal_into, unseal_into};
