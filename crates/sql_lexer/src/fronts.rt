@@ -1,4 +1,4 @@
-ghost use Rattle.std.specs.Prelude.{◌≡◌, length, Option};
+ghost use Rattle.std.specs.Prelude.{◌≡◌, ◌≤◌, length, IfSome};
 ghost use Rattle.std.specs.List.{prefix_len};
 ghost use Rattle.sql_lexer.specs.Lexing as lexing;
 
@@ -61,14 +61,16 @@ fn is_short_symbol(byte: u8) -> bool
 
 /// How many bytes of a word stand in front.
 fn word_run(bytes: &[u8]) -> usize
-    ensures { result ≡ prefix_len lexing.is_word_byte bytes.now }
+    ensures run { result ≡ prefix_len lexing.is_word_byte bytes.now }
+    ensures within { result ≤ length bytes.now }
 {
     bytes.iter().take_while(|byte| is_word_byte(**byte)).count()
 }
 
 /// How many digits stand in front.
 fn digit_run(bytes: &[u8]) -> usize
-    ensures { result ≡ prefix_len lexing.is_digit bytes.now }
+    ensures run { result ≡ prefix_len lexing.is_digit bytes.now }
+    ensures within { result ≤ length bytes.now }
 {
     bytes
         .iter()
@@ -76,9 +78,11 @@ fn digit_run(bytes: &[u8]) -> usize
         .count()
 }
 
+#[tactic(auto, using(crate::proofs::TextEnds::ends))]
 /// How many bytes after the first quote a text takes, with the quote that ends it.
 fn text_end(bytes: &[u8]) -> Option<usize>
-    ensures { result ≡ lexing.text_end bytes.now }
+    ensures end { result ≡ lexing.text_end bytes.now }
+    ensures within { IfSome result (λ end. end ≤ length bytes.now) }
 {
     let mut at = 0;
     while at < bytes.len() {
