@@ -1,1 +1,4 @@
+pub mod Bytes
+pub mod Runs
+pub mod Steps
 pub mod TextEnds

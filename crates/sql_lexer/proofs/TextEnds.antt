@@ -2,18 +2,12 @@
 use Rattle.std.proofs.Common.{◌≡◌, ◌≢◌, ℕ, zero, suc, ◌+◌, ◌-◌, ◌<◌, ◌≤◌, ◌==◌, Bool, true, false, List, [], ◌∷◌, length, get_or, drop, Option, Some, None, refl, sym, ap, ◌∙◌, arith, length-drop, get_or-drop, add-zero}
 use Rattle.std.specs.Prelude.{option_map}
 use Rattle.std.proofs.lemmas.List.{drop_more, drop_all}
-use Rattle.std.proofs.lemmas.Bool.Decides.{nat_tests}
-use Rattle.sql_lexer.specs.Lexing.{is_quote, text_end}
+use Rattle.sql_lexer.specs.Lexing.{text_end}
+use Rattle.sql_lexer.proofs.Bytes.{quote_is, quote_is_not}
 
 -- the end that is found in the rest, counted from `at` bytes before
 abbrev pub past : ℕ → Option ℕ → Option ℕ
 past at found = option_map (λ n. at + n) found
-
-quote_is : (b : ℕ) → b ≡ 39 → is_quote b ≡ true
-quote_is b same = grind (arith, nat_tests)
-
-quote_is_not : (b : ℕ) → b ≢ 39 → is_quote b ≡ false
-quote_is_not b other = grind (arith, nat_tests)
 
 -- nothing is passed at the start
 pub past-start : (found : Option ℕ) → past 0 found ≡ found

@@ -1,7 +1,7 @@
 -- What tokens a text has, or which refusal is the first in it. docs/FORMATS.md, "Query", tells it in prose.
 -- A text is a list of bytes, and a place is counted in bytes from 0.
-use Rattle.std.specs.Prelude.{◌≡◌, ℕ, zero, suc, ◌+◌, ◌-◌, Bool, ◌||◌, ◌&&◌, ◌==◌, if◌then◌else◌, List, [], ◌∷◌, map, take, Option, Some, None, option_map, Result, Ok, Err}
-use Rattle.std.specs.List.{prefix_len}
+use Rattle.std.specs.Prelude.{◌≡◌, ℕ, zero, suc, ◌+◌, ◌-◌, Bool, ◌||◌, ◌&&◌, ◌==◌, if◌then◌else◌, List, [], ◌∷◌, map, take, codes, bytes_eq, Option, Some, None, option_map, Result, Ok, Err}
+use Rattle.std.specs.List.{prefix_len, list_any}
 use Rattle.std.specs.Char.{is_ascii_digit, is_ascii_alphabetic, is_ascii_alphanumeric}
 use Rattle.sql_lexer.specs.declared.token.TokenKind.{TokenKind}
 use Rattle.sql_lexer.specs.declared.token.TokenKind.TheVariants.{Word, Number, Text, Symbol}
@@ -23,21 +23,25 @@ is_letter b = is_ascii_alphabetic b || b == 95
 abbrev pub is_word_byte : ℕ → Bool
 is_word_byte b = is_ascii_alphanumeric b || b == 95
 
--- a digit of ASCII
-abbrev pub is_digit : ℕ → Bool
-is_digit b = is_ascii_digit b
-
 -- a quote, which begins and ends a text
 abbrev pub is_quote : ℕ → Bool
 is_quote b = b == 39
 
--- two bytes that are one symbol: `<>` `<=` `!=` `>=`
-abbrev pub is_long_symbol : ℕ → ℕ → Bool
-is_long_symbol a b = (a == 60 && (b == 62 || b == 61)) || ((a == 33 || a == 62) && b == 61)
+-- the symbols of one byte
+abbrev pub short_symbols : List ℕ
+short_symbols = codes ",.()*;=<>"
 
--- a byte that is a symbol alone: `,` `.` `(` `)` `*` `;` `=` `<` `>`
+-- the symbols of two bytes
+abbrev pub long_symbols : List (List ℕ)
+long_symbols = codes "<>" ∷ codes "!=" ∷ codes "<=" ∷ codes ">=" ∷ []
+
+-- a byte that is a symbol alone
 abbrev pub is_short_symbol : ℕ → Bool
-is_short_symbol b = b == 44 || b == 46 || b == 40 || b == 41 || b == 42 || b == 59 || b == 61 || b == 60 || b == 62
+is_short_symbol b = list_any (λ c. b == c) short_symbols
+
+-- two bytes that are one symbol
+abbrev pub is_long_symbol : ℕ → ℕ → Bool
+is_long_symbol a b = list_any (bytes_eq (a ∷ b ∷ [])) long_symbols
 
 -- how many bytes after its first quote a text takes, with the quote that ends it, or nothing where it has no end:
 -- from the left, two adjacent quotes are one doubled quote inside, and a quote that no quote follows is the end
@@ -48,14 +52,15 @@ text_end (b ∷ c ∷ rest) =
     if is_quote b then (if is_quote c then option_map (λ n. n + 2) (text_end rest) else Some 1)
     else option_map (λ n. n + 1) (text_end (c ∷ rest))
 
--- what stands in front where these bytes follow a quote: a text, or one without its end
-abbrev pub quote_front : List ℕ → Front
-quote_front rest = elim (text_end rest) [ None ↦ Open | Some n ↦ Taken Text (1 + n) ]
+-- what stands in front of a quote, where a text that begins there has its end behind so many bytes, or has no end
+abbrev pub quoted : Option ℕ → Front
+quoted None = Open
+quoted (Some n) = Taken Text (1 + n)
 
 -- what stands in front where these bytes follow a `-`: a number, if a digit is the next
 abbrev pub minus_front : List ℕ → Front
 minus_front [] = Bad
-minus_front (b ∷ rest) = if is_digit b then Taken Number (2 + prefix_len is_digit rest) else Bad
+minus_front (b ∷ rest) = if is_ascii_digit b then Taken Number (2 + prefix_len is_ascii_digit rest) else Bad
 
 -- the symbol in front: one of two bytes before one of a byte
 abbrev pub symbol_front : List ℕ → Front
@@ -70,9 +75,9 @@ front_of [] = Bad
 front_of (b ∷ rest) =
     if is_white b then White
     else (if is_letter b then Taken Word (1 + prefix_len is_word_byte rest)
-    else (if is_digit b then Taken Number (1 + prefix_len is_digit rest)
+    else (if is_ascii_digit b then Taken Number (1 + prefix_len is_ascii_digit rest)
     else (if b == 45 then minus_front rest
-    else (if is_quote b then quote_front rest
+    else (if is_quote b then quoted (text_end rest)
     else symbol_front (b ∷ rest)))))
 
 -- a token with its text as a plain list of bytes, and the place where it begins

@@ -1,5 +1,6 @@
 ghost use Rattle.std.specs.Prelude.{◌≡◌, ◌≤◌, length, IfSome};
 ghost use Rattle.std.specs.List.{prefix_len};
+ghost use Rattle.std.specs.Char.{is_ascii_digit};
 ghost use Rattle.sql_lexer.specs.Lexing as lexing;
 
 use crate::token::TokenKind;
@@ -69,7 +70,7 @@ fn word_run(bytes: &[u8]) -> usize
 
 /// How many digits stand in front.
 fn digit_run(bytes: &[u8]) -> usize
-    ensures run { result ≡ prefix_len lexing.is_digit bytes.now }
+    ensures run { result ≡ prefix_len is_ascii_digit bytes.now }
     ensures within { result ≤ length bytes.now }
 {
     bytes
@@ -110,7 +111,7 @@ fn minus_front(rest: &[u8]) -> Front
 }
 
 fn quote_front(rest: &[u8]) -> Front
-    ensures { result ≡ lexing.quote_front rest.now }
+    ensures { result ≡ lexing.quoted (lexing.text_end rest.now) }
 {
     match text_end(rest) {
         Some(end) => Front::Taken(TokenKind::Text, 1 + end),
