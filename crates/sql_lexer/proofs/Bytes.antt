@@ -43,7 +43,8 @@ short_apart b symbol = record {
   no_letter = grind (arith, nat_tests);
   no_digit = grind (arith, nat_tests);
   no_minus = grind (arith, nat_tests);
-  no_quote = grind (arith, nat_tests) }
+  no_quote = grind (arith, nat_tests);
+}
 
 pub long_apart : (a b : ℕ) → is_long_symbol a b ≡ true → IsApart a
 long_apart a b symbol = record {
@@ -51,7 +52,8 @@ long_apart a b symbol = record {
   no_letter = grind (arith, nat_tests);
   no_digit = grind (arith, nat_tests);
   no_minus = grind (arith, nat_tests);
-  no_quote = grind (arith, nat_tests) }
+  no_quote = grind (arith, nat_tests);
+}
 
 -- bytes of tokens are ASCII, but for the inside of a text
 pub letter_ascii : (b : ℕ) → is_letter b ≡ true → b < 128

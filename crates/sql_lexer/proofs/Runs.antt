@@ -31,7 +31,7 @@ pub all_in_run : (test : ℕ → Bool) (bytes : List ℕ) → list_all test (tak
 all_in_run test [] = refl
 all_in_run test (b ∷ rest) =
     branch (λ n. list_all test (take n (b ∷ rest)) ≡ true) (test b) (1 + prefix_len test rest) 0
-      (λ passes. rw (one_and (prefix_len test rest), passes) (all_in_run test rest)) (λ fails. refl)
+    (λ passes. rw (one_and (prefix_len test rest), passes) (all_in_run test rest)) (λ fails. refl)
 
 -- of two tests that pass together each passes
 pub both : (x y : Bool) → (x && y) ≡ true → (x ≡ true) × (y ≡ true)

@@ -1,7 +1,7 @@
--- What stands in front decides the tokens of the rest of a text, and the loop's step goes on behind it.
+-- What stands in front decides the tokens of the rest of a text.
 use Rattle.std.proofs.Common.{◌≡◌, ℕ, zero, suc, ◌+◌, ◌-◌, ◌<◌, ◌≤◌, List, [], ◌∷◌, ◌++◌, map, length, take, drop, Result, Ok, Err, IsUtf8, refl, sym, ap, subst, ◌∙◌, arith, append_assoc, length-drop, add-zero}
 use Rattle.std.specs.Str.{IsCharBoundary}
-use Rattle.std.proofs.lemmas.List.{map_push, nil_from_length}
+use Rattle.std.proofs.lemmas.List.{map_push, append-nil}
 use Rattle.std.proofs.lemmas.Str.{IsUtf8-drop}
 use Rattle.sql_lexer.specs.declared.token.TokenKind.{TokenKind}
 use Rattle.sql_lexer.specs.declared.token.Token.{Token}
@@ -53,46 +53,3 @@ pub lexed_from-end : (at : ℕ) (rest : List ℕ) → length rest ≡ 0 → lexe
 unfolding lexed_from
 lexed_from-end at [] none_left = refl
 lexed_from-end at (b ∷ rest) none_left = absurd (omega arith)
-
--- the tokens of the rest of a text, behind those before
-abbrev pub behind : List Lexeme → Result (List Lexeme) LexNo → Result (List Lexeme) LexNo
-behind xs (Ok ys) = Ok (xs ++ ys)
-behind xs (Err e) = Err e
-
-behind-none : (r : Result (List Lexeme) LexNo) → behind [] r ≡ r
-behind-none (Ok ys) = refl
-behind-none (Err e) = refl
-
-behind-push : (xs : List Lexeme) (x : Lexeme) (r : Result (List Lexeme) LexNo)
-    → behind xs (with_first x r) ≡ behind (xs ++ x ∷ []) r
-behind-push xs x (Ok ys) = ap (λ (zs : List Lexeme). Ok zs) (sym (append_assoc xs (x ∷ []) ys))
-behind-push xs x (Err e) = refl
-
--- the loop's invariant: the tokens found stand before the rest, and the text has those and the ones of the rest
-pub record Next (source : List ℕ) (ts : List Token) (rest : List ℕ) : Type 0 where
-  pub within : length rest ≤ length source
-  pub utf8 : IsUtf8 rest
-  pub whole : lexed source ≡ behind (map lexeme ts) (lexed_from 0 (length source - length rest) rest)
-
--- at the start all is left
-pub next-start : (source : List ℕ) → IsUtf8 source → Next source [] source
-unfolding lexed
-next-start source utf8 =
-    let place : length source - length source ≡ 0 = omega arith in
-    record {
-      within = omega arith;
-      utf8 = utf8;
-      whole = rw place (sym (behind-none (lexed_from 0 0 source))) }
-
-module _ (source : List ℕ) (ts : List Token) (rest : List ℕ) (next : Next source ts rest) where
-  -- the place of what is left behind n bytes
-  place_behind : (n : ℕ) → n ≤ length rest → length source - length (drop n rest) ≡ length source - length rest + n
-  place_behind n within = omega (arith, next.within, length-drop n rest)
-
-  pub next-white : Front → front_of rest ≡ White → 0 < length rest → IsCharBoundary rest 1 → Next source ts (drop 1 rest)
-  next-white found front some cut = record {
-    within = omega (arith, next.within, length-drop 1 rest);
-    utf8 = IsUtf8-drop rest 1 next.utf8 cut;
-    whole = next.whole ∙ ap (behind (map lexeme ts))
-      (lexed_from-white (length source - length rest) rest front some
-        ∙ ap (λ place. lexed_from 0 place (drop 1 rest)) (sym (place_behind 1 (omega arith)))) }

@@ -18,11 +18,11 @@ past-past : (m n : ℕ) (found : Option ℕ) → past m (option_map (λ k. k + n
 past-past m n None = refl
 past-past m n (Some k) = ap (λ x. Some x) (omega arith)
 
-text_end-other : (b : ℕ) (rest : List ℕ) → b ≢ 39 → text_end (b ∷ rest) ≡ option_map (λ n. n + 1) (text_end rest)
+pub text_end-other : (b : ℕ) (rest : List ℕ) → b ≢ 39 → text_end (b ∷ rest) ≡ option_map (λ n. n + 1) (text_end rest)
 text_end-other b [] other = rw (quote_is_not b other) refl
 text_end-other b (c ∷ rest) other = rw (quote_is_not b other) refl
 
-text_end-doubled : (b c : ℕ) (rest : List ℕ) → b ≡ 39 → c ≡ 39 → text_end (b ∷ c ∷ rest) ≡ option_map (λ n. n + 2) (text_end rest)
+pub text_end-doubled : (b c : ℕ) (rest : List ℕ) → b ≡ 39 → c ≡ 39 → text_end (b ∷ c ∷ rest) ≡ option_map (λ n. n + 2) (text_end rest)
 text_end-doubled b c rest quote again = rw (quote_is b quote, quote_is c again) refl
 
 text_end-end : (b : ℕ) (rest : List ℕ) → b ≡ 39 → (0 < length rest → get_or rest 0 0 ≢ 39) → text_end (b ∷ rest) ≡ Some 1
@@ -42,9 +42,9 @@ past-doubled bytes at below quote again =
     let here : at < length bytes = omega arith in
     let next : at + 1 + 1 ≡ at + 2 = omega arith in
     let second : drop (at + 1) bytes ≡ get_or bytes (at + 1) 0 ∷ drop (at + 2) bytes =
-        drop_more bytes (at + 1) 0 below ∙ ap (λ i. get_or bytes (at + 1) 0 ∷ drop i bytes) next in
+    drop_more bytes (at + 1) 0 below ∙ ap (λ i. get_or bytes (at + 1) 0 ∷ drop i bytes) next in
     rw (drop_more bytes at 0 here, second, text_end-doubled (get_or bytes at 0) (get_or bytes (at + 1) 0) (drop (at + 2) bytes) quote again)
-        (past-past at 2 _)
+    (past-past at 2 _)
 
 first_of-drop : (bytes : List ℕ) (at : ℕ) → get_or (drop at bytes) 0 0 ≡ get_or bytes at 0
 first_of-drop bytes at = get_or-drop at bytes 0 0 ∙ ap (λ i. get_or bytes i 0) (add-zero at)
@@ -53,9 +53,11 @@ first_of-drop bytes at = get_or-drop at bytes 0 0 ∙ ap (λ i. get_or bytes i 0
 pub past-end : (bytes : List ℕ) (at : ℕ) → at < length bytes → get_or bytes at 0 ≡ 39
     → (at + 1 < length bytes → get_or bytes (at + 1) 0 ≢ 39) → past at (text_end (drop at bytes)) ≡ Some (at + 1)
 past-end bytes at below quote alone =
-    rw (drop_more bytes at 0 below,
+    rw (
+      drop_more bytes at 0 below,
       text_end-end (get_or bytes at 0) (drop (at + 1) bytes) quote
-        (λ some. rw (first_of-drop bytes (at + 1)) (alone (omega (arith, length-drop (at + 1) bytes))))) refl
+          (λ some. rw (first_of-drop bytes (at + 1)) (alone (omega (arith, length-drop (at + 1) bytes)))),
+    ) refl
 
 -- where no byte is left, there is no end
 pub past-none : (bytes : List ℕ) (at : ℕ) → length bytes ≤ at → past at (text_end (drop at bytes)) ≡ None

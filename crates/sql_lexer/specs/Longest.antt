@@ -1,12 +1,15 @@
 -- Which lists of bytes are tokens, and what it is that the longest is taken each time. docs/FORMATS.md, "Query", tells it in prose.
-use Rattle.std.specs.Prelude.{◌≡◌, ◌≢◌, ◌⊎◌, ℕ, ◌<◌, ◌≤◌, true, false, List, [], ◌∷◌, ◌++◌, length, take, slice_index}
+use Rattle.std.specs.Prelude.{◌≡◌, ◌≢◌, ◌⊎◌, ℕ, ◌+◌, ◌-◌, ◌<◌, ◌≤◌, true, false, List, [], ◌∷◌, ◌++◌, map, length, take, drop, slice_index, All, Result, Ok, Err}
 use Rattle.std.specs.List.{list_all}
 use Rattle.std.specs.Char.{is_ascii_digit}
 use Rattle.sql_lexer.specs.declared.token.TokenKind.{TokenKind}
 use Rattle.sql_lexer.specs.declared.token.TokenKind.TheVariants.{Word, Number, Text, Symbol}
+use Rattle.sql_lexer.specs.declared.token.Token.{Token}
+use Rattle.sql_lexer.specs.declared.refusal.LexNo.{LexNo}
+use Rattle.sql_lexer.specs.declared.refusal.LexNo.TheVariants.{BadChar, OpenText, NoMemory}
 use Rattle.sql_lexer.specs.declared.fronts.Front.{Front}
 use Rattle.sql_lexer.specs.declared.fronts.Front.TheVariants.{White, Taken, Bad, Open}
-use Rattle.sql_lexer.specs.Lexing.{is_white, is_letter, is_word_byte, is_short_symbol, is_long_symbol}
+use Rattle.sql_lexer.specs.Lexing.{is_white, is_letter, is_word_byte, is_short_symbol, is_long_symbol, Lexeme, lexeme}
 
 -- a letter or `_`, followed by letters, digits or `_`
 abbrev pub IsWord : List ℕ → Type 0
@@ -77,3 +80,25 @@ StandsBefore bytes White = is_white (slice_index bytes 0) ≡ true
 StandsBefore bytes (Taken kind n) = IsLongest kind n bytes
 StandsBefore bytes Bad = BeginsNone bytes
 StandsBefore bytes Open = IsOpen bytes
+
+-- the token is the longest that can be taken where it begins
+abbrev pub IsLongestIn : List ℕ → Lexeme → Type 0
+IsLongestIn source x = IsLongest x.kind (length x.text) (drop x.at source)
+
+-- from this place on, only white space stands before, between and behind the tokens
+abbrev pub OnlyWhite : ℕ → List ℕ → List Lexeme → Type 0
+OnlyWhite from source [] = list_all is_white (drop from source) ≡ true
+OnlyWhite from source (x ∷ xs) =
+    (list_all is_white (take (x.at - from) (drop from source)) ≡ true) × OnlyWhite (x.at + length x.text) source xs
+
+-- each token is the longest where it begins, and white space alone is left out
+pub record AreLongest (source : List ℕ) (xs : List Lexeme) : Type 0 where
+  pub longest : All (IsLongestIn source) xs
+  pub white : OnlyWhite 0 source xs
+
+-- the answer takes the longest token each time, and where it refuses, none begins. Want of memory is tied to no cause
+abbrev pub TakesLongest : List ℕ → Result (List Token) LexNo → Type 0
+TakesLongest source (Ok ts) = AreLongest source (map lexeme ts)
+TakesLongest source (Err NoMemory) = Unit {0}
+TakesLongest source (Err (BadChar at)) = BeginsNone (drop at source)
+TakesLongest source (Err (OpenText at)) = IsOpen (drop at source)

@@ -1,5 +1,6 @@
 ghost use Rattle.std.specs.Prelude.{◌≡◌, ◌≤◌, length, IfOk};
 ghost use Rattle.sql_lexer.specs.Lexing.{lexed, Lexes};
+ghost use Rattle.sql_lexer.specs.Longest.{TakesLongest};
 ghost use Rattle.sql_lexer.specs.Slices.{AreSlices};
 
 use crate::fronts::{Front, front_of};
@@ -18,6 +19,7 @@ pub fn tokens(alloc: Global, text: &str) -> Result<Seq<Token<'_>>, LexNo>
     requires { length text.now ≤ 67108864 }
     ensures lexed { Lexes result (lexed text.now) }
     ensures sliced { IfOk result (AreSlices text.now) }
+    ensures longest { TakesLongest text.now result }
 {
     let mut found = Vec::new(alloc);
     let mut rest = text;
