@@ -79,8 +79,8 @@ fn digit_run(bytes: &[u8]) -> usize
         .count()
 }
 
-#[tactic(auto, using(crate::proofs::TextEnds::ends))]
 /// How many bytes after the first quote a text takes, with the quote that ends it.
+#[tactic(auto, using(crate::proofs::TextEnds::ends))]
 fn text_end(bytes: &[u8]) -> Option<usize>
     ensures end { result ≡ lexing.text_end bytes.now }
     ensures within { IfSome result (λ end. end ≤ length bytes.now) }
