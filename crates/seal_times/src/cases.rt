@@ -4,16 +4,17 @@ ghost use Rattle.std.specs.Prelude.{◌≡◌, ◌%◌, ◌≤◌, length};
 ghost use Rattle.cipher_order.specs.Order.{IsDigits};
 ghost use Rattle.seal_times.specs.Costs.{block_of, digits_of};
 
-// The number 5.
+// The block and the digit string of the number 5.
 const INT_BLOCK: [u8; 16] = [128, 0, 0, 0, 0, 0, 0, 0, 0, 0, 0, 0, 0, 0, 0, 5];
 
 const INT_DIGITS: [u16; 16] = [129, 1, 1, 1, 1, 1, 1, 1, 1, 1, 1, 1, 1, 1, 1, 6];
 
-// Of the longest text. Which bytes a block has changes no cost.
+// A block and a digit string of the longest text's length. What a block has in it changes no time.
 const TEXT_BLOCK: [u8; 122] = [99; 122];
 
 const TEXT_DIGITS: [u16; 120] = [100; 120];
 
+/// The three seals of docs/CIPHERS.md.
 #[derive(Clone, Copy)]
 pub(crate) enum Seal {
     Deterministic,
@@ -71,6 +72,7 @@ impl ValueType {
     }
 }
 
+/// A seal on the value of a type.
 #[derive(Clone, Copy)]
 pub(crate) struct Case {
     pub(crate) seal: Seal,

@@ -1,4 +1,4 @@
-//! What one cell hashes.
+//! What one cell hashes, by docs/CIPHERS.md.
 
 ghost use Rattle.std.specs.Prelude.{◌≡◌, ◌*◌, ◌<◌, ◌≤◌};
 ghost use Rattle.seal_times.specs.Costs.{blocks_of, steps_of, messages_of, cell_messages, cell_blocks};
@@ -10,8 +10,19 @@ const BLOCK_LEN: usize = 64;
 
 const END_LEN: usize = 9;
 
-// The bytes of a message before what the case decides: the key and three bytes.
+// The rounds of the deterministic seal, and the half up to which one digest covers it.
+const ROUNDS: usize = 8;
+
+const DIGEST_LEN: usize = 32;
+
+// The gaps that one digest gives the order-preserving seal.
+const GAP_COUNT: usize = 32;
+
+// The key and the three bytes with which the messages of these two seals begin.
 const HEAD_LEN: usize = 35;
+
+// The message of the randomised seal: the key, a byte and the step.
+const SEED_LEN: usize = 37;
 
 /// Messages of one length that are hashed at one step.
 #[derive(Clone, Copy)]
@@ -43,7 +54,7 @@ pub(crate) fn steps_of(case: Case) -> usize
     ensures few { result ≤ 120 }
 {
     match case.seal {
-        Seal::Deterministic => 8,
+        Seal::Deterministic => ROUNDS,
         Seal::OrderPreserving => case.value.digits().len(),
         Seal::Randomised => 1,
     }
@@ -61,17 +72,17 @@ pub(crate) fn messages_of(case: Case, step: usize) -> Messages
         Seal::Deterministic => {
             let half = case.value.block().len() / 2;
             Messages {
-                count: if half <= 32 { 1 } else { 2 },
+                count: if half <= DIGEST_LEN { 1 } else { 2 },
                 bytes: HEAD_LEN + half,
             }
         }
         Seal::OrderPreserving => Messages {
-            count: case.value.digits()[step] as usize / 32 + 1,
+            count: case.value.digits()[step] as usize / GAP_COUNT + 1,
             bytes: HEAD_LEN + 2 * step,
         },
         Seal::Randomised => Messages {
             count: 1,
-            bytes: 37,
+            bytes: SEED_LEN,
         },
     }
 }

@@ -16,9 +16,10 @@ const STEP: u32 = 1;
 
 const ROW: u64 = 7;
 
-// What stands behind the first 32 bytes of a message.
+// What follows the first 32 bytes of a message in the bare work.
 const FILL: [u8; 268] = [0; 268];
 
+/// What is timed of a case.
 #[derive(Clone, Copy)]
 pub(crate) enum Work {
     /// Sealing a cell.
@@ -27,6 +28,7 @@ pub(crate) enum Work {
     Bare(Case),
 }
 
+// The bytes of the cell.
 fn cell_len(case: Case) -> usize
     ensures value { result ≡ cell_len_of case.seal case.value }
     ensures least { 1 ≤ result }
@@ -39,6 +41,7 @@ fn cell_len(case: Case) -> usize
     }
 }
 
+// Writes the cell under a key.
 fn seal_into(case: Case, key: &[u8; 32], cell: &mut [u8])
     requires { length cell.old ≡ cell_len_of case.seal case.value }
     ensures { cell.new ≡ cell_of case.seal case.value key.now }
@@ -50,8 +53,8 @@ fn seal_into(case: Case, key: &[u8; 32], cell: &mut [u8])
     }
 }
 
-// The last byte of the cell.
-fn seal(case: Case, key: &[u8; 32]) -> u8
+// The last byte of the cell under a key.
+fn cell_end(case: Case, key: &[u8; 32]) -> u8
     ensures { result ≡ end_of (cell_of case.seal case.value key.now) }
 {
     let mut room = [0; 240];
@@ -61,11 +64,10 @@ fn seal(case: Case, key: &[u8; 32]) -> u8
 }
 
 // Hashes the messages of a step, each of which begins with the digest before it.
-fn hash_step(digest: [u8; 32], messages: Messages) -> [u8; 32]
+fn hash_step(mut digest: [u8; 32], messages: Messages) -> [u8; 32]
     requires long { 32 ≤ messages.bytes }
     requires short { messages.bytes ≤ 300 }
 {
-    let mut digest = digest;
     for _ in 0..messages.count {
         let mut hasher = Sha256::new();
         hasher.update(digest);
@@ -85,8 +87,8 @@ fn draw(seed: [u8; 32], case: Case) -> u8 {
     stream[stream.len() - 1]
 }
 
-// The last byte of what the bare work of one cell comes to.
-fn hash(case: Case, key: &[u8; 32]) -> u8 {
+// The last byte of what the bare work of one cell comes to, begun with a key.
+fn bare_end(case: Case, key: &[u8; 32]) -> u8 {
     let mut digest = *key;
     for step in 0..steps_of(case) {
         digest = hash_step(digest, messages_of(case, step));
@@ -102,8 +104,8 @@ fn perform(work: Work, count: u32) -> [u8; 32] {
     let mut key = [7; 32];
     for turn in 0..count as usize {
         let end = match work {
-            Work::Seal(case) => seal(case, &key),
-            Work::Bare(case) => hash(case, &key),
+            Work::Seal(case) => cell_end(case, &key),
+            Work::Bare(case) => bare_end(case, &key),
         };
         key[turn % 32] ^= end;
     }
@@ -115,7 +117,7 @@ pub(crate) fn nanos_of(rt: &HostRuntime, work: Work, count: u32) -> io::Result<u
     let start = Instant::now(rt)?;
     let key = perform(work, count);
     let nanos = start.elapsed(rt)?.as_nanos();
-    // This never prints, and keeps the compiler from dropping the work.
+    // No run comes to this key, but no compiler can know it, and so none drops the work.
     if key == [0; 32] {
         eprintln!(rt; "the key came to zero")?;
     }
