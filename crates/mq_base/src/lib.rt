@@ -3,6 +3,7 @@
 #![tactic(auto)]
 
 mod attr_set;
+mod bytes;
 mod ids;
 mod memory;
 mod plan;
