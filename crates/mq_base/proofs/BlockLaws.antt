@@ -50,11 +50,11 @@ shifted_order : (x y : ℤ) → FitsSigned w128 x → FitsSigned w128 y → nat_
 shifted_order x y fits fits_too =
     int_cmp_is x y (nat_cmp (shifted x) (shifted y)) (by_answer _ (ranked (shifted x) (shifted y) _ refl))
   where
-  by_answer : (answer : Ordering) → MatchOrdering answer (shifted x < shifted y) (shifted x ≡ shifted y) (shifted y < shifted x)
-      → MatchOrdering answer (x <ℤ y) (x ≡ y) (y <ℤ x)
-  by_answer Less less = shifted_below x y fits fits_too less
-  by_answer Equal same = shifted_determines x y fits fits_too same
-  by_answer Greater more = shifted_below y x fits_too fits more
+    by_answer : (answer : Ordering) → MatchOrdering answer (shifted x < shifted y) (shifted x ≡ shifted y) (shifted y < shifted x)
+        → MatchOrdering answer (x <ℤ y) (x ≡ y) (y <ℤ x)
+    by_answer Less less = shifted_below x y fits fits_too less
+    by_answer Equal same = shifted_determines x y fits fits_too same
+    by_answer Greater more = shifted_below y x fits_too fits more
 
 pub length-int_block : (x : ℤ) → length (int_block x) ≡ 16
 unfolding int_block
@@ -68,8 +68,8 @@ int_block_order x y fits fits_too =
     ∙ ap (λ n. nat_cmp (shifted x) n) (whole y fits_too)
     ∙ shifted_order x y fits fits_too
   where
-  whole : (z : ℤ) → FitsSigned w128 z → shifted z % 256 ^ 16 ≡ shifted z
-  whole z fits = let below : shifted z < 2 ^ 128 = shifted_fits z fits in omega arith
+    whole : (z : ℤ) → FitsSigned w128 z → shifted z % 256 ^ 16 ≡ shifted z
+    whole z fits = let below : shifted z < 2 ^ 128 = shifted_fits z fits in omega arith
 
 -- ---- lists filled with zeros
 
@@ -92,8 +92,8 @@ filled_full width xs full = let none : width - length xs ≡ 0 = omega arith in 
 pub digits_small : (bytes : List ℕ) → ((k : ℕ) → get_or bytes k 0 < 256) → All (λ digit. digit ≤ 256) (digits bytes)
 digits_small bytes small =
     All-map (λ digit. digit ≤ 256) (λ byte. byte + 1) bytes
-      (λ k d below. let read : get_or bytes k d ≡ get_or bytes k 0 = get_or_default bytes k d 0 below in
-        let byte : get_or bytes k 0 < 256 = small k in omega arith)
+    (λ k d below. let read : get_or bytes k d ≡ get_or bytes k 0 = get_or_default bytes k d 0 below in
+    let byte : get_or bytes k 0 < 256 = small k in omega arith)
 
 -- one more digit in place of the first zero
 pub digits_more : (width : ℕ) (bytes : List ℕ) (i byte : ℕ) → i < length bytes → length bytes ≤ width → byte ≡ get_or bytes i 0
@@ -102,7 +102,7 @@ digits_more width bytes i byte below room read =
     let so_far : length (take i bytes) ≡ i = length-take-le i bytes (omega arith) in
     let at : i ≡ length (digits (take i bytes)) = omega (arith, length-map (take i bytes) (λ byte. byte + 1)) in
     let next : digits (take (i + 1) bytes) ≡ digits (take i bytes) ++ (get_or bytes i 0 + 1) ∷ [] =
-        ap digits (take_more bytes i 0 below) ∙ map-append (λ byte. byte + 1) (take i bytes) (get_or bytes i 0 ∷ []) in
+    ap digits (take_more bytes i 0 below) ∙ map-append (λ byte. byte + 1) (take i bytes) (get_or bytes i 0 ∷ []) in
     rw (next, read) (filled_more width (digits (take i bytes)) (get_or bytes i 0 + 1) i at (omega arith))
 
 digits_above : (bytes : List ℕ) → All (λ digit. 0 < digit) (digits bytes)
@@ -112,41 +112,47 @@ digits_above bytes = All-map (λ digit. 0 < digit) (λ byte. byte + 1) bytes (λ
 
 pub length-block : (v : Value) → Fits v → length (block_of v) ≡ block_length (type_of v)
 length-block (Int x) fits = length-int_block x
-length-block (Text t) fits = length-filled 122 (length t ∷ t) (omega arith)
+length-block (Text t) fits = length-filled 122 (length t ∷ t) (let short : length t ≤ 120 = fits.short in omega arith)
 
 pub length-digits : (v : Value) → Fits v → length (digits_of v) ≡ digits_length (type_of v)
 length-digits (Int x) fits = length-map (int_block x) (λ byte. byte + 1) ∙ length-int_block x
-length-digits (Text t) fits = length-filled 120 (digits t) (omega (arith, length-map t (λ byte. byte + 1)))
+length-digits (Text t) fits = length-filled 120 (digits t) (let short : length t ≤ 120 = fits.short in omega (arith, length-map t (λ byte. byte + 1)))
 
 pub block_determines : (v w : Value) → Fits v → Fits w → block_of v ≡ block_of w → v ≡ w
-block_determines (Int x) (Int y) fits fits_too same = ap Int (from_block x y fits fits_too same)
+block_determines (Int x) (Int y) fits fits_too same = ap Int (from_block x y fits.representable fits_too.representable same)
   where
-  from_block : (x y : ℤ) → FitsSigned w128 x → FitsSigned w128 y → int_block x ≡ int_block y → x ≡ y
-  from_block x y fits fits_too same =
-      int_ranked x y Equal (sym (slice_cmp-same (int_block y)) ∙ ap (λ (b : List ℕ). slice_cmp nat_cmp b (int_block y)) (sym same) ∙ int_block_order x y fits fits_too)
+    from_block : (x y : ℤ) → FitsSigned w128 x → FitsSigned w128 y → int_block x ≡ int_block y → x ≡ y
+    from_block x y fits fits_too same =
+        int_ranked x y Equal (sym (slice_cmp-same (int_block y)) ∙ ap (λ (b : List ℕ). slice_cmp nat_cmp b (int_block y)) (sym same) ∙ int_block_order x y fits fits_too)
 block_determines (Int x) (Text t) fits fits_too same =
+    let short : length t ≤ 120 = fits_too.short in
     absurd (omega (arith, length-int_block x, length-filled 122 (length t ∷ t) (omega arith), ap length same))
 block_determines (Text s) (Int y) fits fits_too same =
+    let short : length s ≤ 120 = fits.short in
     absurd (omega (arith, length-int_block y, length-filled 122 (length s ∷ s) (omega arith), ap length same))
 block_determines (Text s) (Text t) fits fits_too same = ap Text (from_block s t same)
   where
-  same_length : (s t rest more : List ℕ) → length s ∷ (s ++ rest) ≡ length t ∷ (t ++ more) → length s ≡ length t
-  same_length s t rest more same = cc
-  same_rest : (s t rest more : List ℕ) → length s ∷ (s ++ rest) ≡ length t ∷ (t ++ more) → s ++ rest ≡ t ++ more
-  same_rest s t rest more same = cc
-  from_block : (s t : List ℕ) → block_of (Text s) ≡ block_of (Text t) → s ≡ t
-  from_block s t same =
-      let long : length s ≡ length t = same_length s t _ _ same in
-      let zeros : s ++ replicate (122 - suc (length t)) 0 ≡ t ++ replicate (122 - suc (length t)) 0 =
-          rw long at (same_rest s t _ _ same) in
-      append_cancel_right s t (replicate (122 - suc (length t)) 0) zeros
+    same_length : (s t rest more : List ℕ) → length s ∷ (s ++ rest) ≡ length t ∷ (t ++ more) → length s ≡ length t
+    same_length s t rest more same = cc
+
+    same_rest : (s t rest more : List ℕ) → length s ∷ (s ++ rest) ≡ length t ∷ (t ++ more) → s ++ rest ≡ t ++ more
+    same_rest s t rest more same = cc
+
+    from_block : (s t : List ℕ) → block_of (Text s) ≡ block_of (Text t) → s ≡ t
+    from_block s t same =
+        let long : length s ≡ length t = same_length s t _ _ same in
+        let zeros : s ++ replicate (122 - suc (length t)) 0 ≡ t ++ replicate (122 - suc (length t)) 0 =
+        rw long at (same_rest s t _ _ same) in
+        append_cancel_right s t (replicate (122 - suc (length t)) 0) zeros
 
 pub digits_order : (v w : Value) → Fits v → Fits w → type_of v ≡ type_of w
     → slice_cmp nat_cmp (digits_of v) (digits_of w) ≡ value_cmp v w
-digits_order (Int x) (Int y) fits fits_too same = slice_cmp-add_one (int_block x) (int_block y) ∙ int_block_order x y fits fits_too
+digits_order (Int x) (Int y) fits fits_too same = slice_cmp-add_one (int_block x) (int_block y) ∙ int_block_order x y fits.representable fits_too.representable
 digits_order (Int x) (Text t) fits fits_too same = cc
 digits_order (Text s) (Int y) fits fits_too same = cc
 digits_order (Text s) (Text t) fits fits_too same =
+    let short : length s ≤ 120 = fits.short in
+    let short_too : length t ≤ 120 = fits_too.short in
     slice_cmp-filled (digits s) (digits t) _ _ (digits_above s) (digits_above t)
-      (omega (arith, length-map s (λ byte. byte + 1), length-map t (λ byte. byte + 1)))
+    (omega (arith, length-map s (λ byte. byte + 1), length-map t (λ byte. byte + 1)))
     ∙ slice_cmp-add_one s t

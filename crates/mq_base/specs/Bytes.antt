@@ -7,10 +7,20 @@ use Rattle.mq_base.specs.declared.value.ValueType.TheVariants as type
 use Rattle.mq_base.specs.declared.value.Value.{Value}
 use Rattle.mq_base.specs.declared.value.Value.TheVariants.{Int, Text}
 
--- a value that has a block and a digit string: an INT within 128 bits, a TEXT of at most 120 bytes
-abbrev pub Fits : Value → Type 0
-Fits (Int x) = FitsSigned w128 x
-Fits (Text t) = length t ≤ 120
+-- a TEXT of at most 120 bytes
+abbrev pub IsShort : Value → Type 0
+IsShort (Int x) = Unit {0}
+IsShort (Text t) = length t ≤ 120
+
+-- an INT within 128 bits, as each INT of a program is
+abbrev pub IsRepresentable : Value → Type 0
+IsRepresentable (Int x) = FitsSigned w128 x
+IsRepresentable (Text t) = Unit {0}
+
+-- a value that has a block and a digit string
+pub record Fits (value : Value) : Type 0 where
+  pub short : IsShort value
+  pub representable : IsRepresentable value
 
 -- an INT counted from the least one within 128 bits: x + 2^127
 abbrev pub shifted : ℤ → ℕ

@@ -4,20 +4,22 @@ ghost use Rattle.std.specs.Ordering.{nat_cmp};
 ghost use Rattle.std.specs.Cmp.Lexicographic.{slice_cmp};
 ghost use Rattle.mq_base.specs.declared.value.Value.{Value};
 ghost use Rattle.mq_base.specs.Value.{type_of, value_cmp};
-ghost use Rattle.mq_base.specs.Bytes.{Fits, int_block, filled, digits, block_of, digits_of, block_length, digits_length};
+ghost use Rattle.mq_base.specs.Bytes.{IsShort, Fits, int_block, filled, digits, block_of, digits_of, block_length, digits_length};
 
 use crate::value::Value;
 
 impl Value {
     /// Writes the block, which determines the value, at the front of `out`, and answers its length: 16 for an
-    /// INT and 122 for a TEXT. What follows the block stays. docs/CIPHERS.md, "Blocks and digits".
+    /// INT and 122 for a TEXT, which has at most 120 bytes. What follows the block stays.
+    /// docs/CIPHERS.md, "Blocks and digits".
     pub fn block_into(&self, out: &mut [u8]) -> usize
         requires room { 122 ≤ length out.old }
-        requires fits { Fits self.now }
+        requires short { IsShort self.now }
         ensures written { take result out.new ≡ block_of self.now }
         ensures len { result ≡ length (block_of self.now) }
         ensures by_type { result ≡ block_length (type_of self.now) }
         ensures rest { drop result out.new ≡ drop result out.old }
+        ensures fits { Fits self.now }
         ensures determines { (other : Value) → Fits other → block_of other ≡ block_of self.now → other ≡ self.now }
     {
         let width = self.block_width();
@@ -25,16 +27,18 @@ impl Value {
         width
     }
 
-    /// Writes the digit string at the front of `out`, and answers its length: 16 for an INT and 120 for a TEXT.
-    /// Each digit is at most 256. Digit strings of one type, compared digit by digit, are in the order of the
-    /// values. What follows the digit string stays. docs/CIPHERS.md, "Blocks and digits".
+    /// Writes the digit string at the front of `out`, and answers its length: 16 for an INT and 120 for a TEXT,
+    /// which has at most 120 bytes. Each digit is at most 256. Digit strings of one type, compared digit by
+    /// digit, are in the order of the values. What follows the digit string stays.
+    /// docs/CIPHERS.md, "Blocks and digits".
     pub fn digits_into(&self, out: &mut [u16]) -> usize
         requires room { 120 ≤ length out.old }
-        requires fits { Fits self.now }
+        requires short { IsShort self.now }
         ensures written { take result out.new ≡ digits_of self.now }
         ensures len { result ≡ length (digits_of self.now) }
         ensures by_type { result ≡ digits_length (type_of self.now) }
         ensures rest { drop result out.new ≡ drop result out.old }
+        ensures fits { Fits self.now }
         ensures ordered { (other : Value) → Fits other → type_of other ≡ type_of self.now
             → slice_cmp nat_cmp (digits_of other) (digits_of self.now) ≡ value_cmp other self.now }
         ensures small { All (λ digit. digit ≤ 256) (digits_of self.now) }
@@ -67,8 +71,9 @@ impl Value {
     /// Fills `out` with the block.
     fn fill_block(&self, out: &mut [u8])
         requires room { length out.old ≡ block_length (type_of self.now) }
-        requires fits { Fits self.now }
-        ensures { out.new ≡ block_of self.now }
+        requires short { IsShort self.now }
+        ensures written { out.new ≡ block_of self.now }
+        ensures fits { Fits self.now }
     {
         match self {
             Value::Int(x) => out.copy_from_slice(&int_bytes(*x)),
@@ -79,8 +84,9 @@ impl Value {
     /// Fills `out` with the digit string.
     fn fill_digits(&self, out: &mut [u16])
         requires room { length out.old ≡ digits_length (type_of self.now) }
-        requires fits { Fits self.now }
+        requires short { IsShort self.now }
         ensures written { out.new ≡ digits_of self.now }
+        ensures fits { Fits self.now }
         ensures small { All (λ digit. digit ≤ 256) (digits_of self.now) }
     {
         match self {

@@ -11,6 +11,8 @@ mod query;
 mod schema;
 mod seq;
 mod table;
+#[cfg(test)]
+mod tests;
 mod text;
 mod value;
 
