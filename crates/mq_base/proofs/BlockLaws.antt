@@ -1,8 +1,8 @@
 -- Laws of blocks and digit strings: their lengths, that a block determines its value, and that digit strings are in
 -- the order of the values.
-use Rattle.std.proofs.Common.{◌≡◌, ℕ, zero, suc, ◌+◌, ◌-◌, ◌%◌, ◌^◌, ◌<◌, ◌≤◌, ℤ, pos, negsuc, ◌+ℤ◌, ◌<ℤ◌, List, [], ◌∷◌, ◌++◌, length, replicate, map, set, get_or, take, drop, refl, sym, ◌∙◌, ap, arith}
+use Rattle.std.proofs.Common.{◌≡◌, ℕ, suc, ◌+◌, ◌-◌, ◌%◌, ◌^◌, ◌<◌, ◌≤◌, ℤ, pos, negsuc, ◌+ℤ◌, ◌<ℤ◌, List, [], ◌∷◌, ◌++◌, length, replicate, set, get_or, take, refl, sym, ◌∙◌, ap, arith}
 use Rattle.std.proofs.lemmas.Int.{ints, to_z-of_z}
-use Rattle.std.proofs.lemmas.List.{append_assoc, append-nil, append_cancel_right, drop-replicate, length-append, length-map, length-replicate, set_at, get_or_default, length-take-le, take_more, map-append}
+use Rattle.std.proofs.lemmas.List.{append_assoc, append-nil, append_cancel_right, length-append, length-map, length-replicate, set_at, get_or_default, length-take-le, take_more, map-append}
 use Rattle.std.proofs.lemmas.List.Elements.{All-map}
 use Rattle.std.specs.Int.{w128, cast_signed, cast_unsigned}
 use Rattle.std.specs.Int.RustNames.{FitsSigned}
@@ -10,7 +10,7 @@ use Rattle.std.specs.List.{All}
 use Rattle.std.specs.Ordering.{nat_cmp, int_cmp, MatchOrdering}
 use Rattle.std.specs.declared.cmp.Ordering.{Ordering}
 use Rattle.std.specs.declared.cmp.Ordering.TheVariants.{Less, Equal, Greater}
-use Rattle.std.specs.Cmp.{int_ranked, nat_cmp_is, ranked, int_cmp_is}
+use Rattle.std.specs.Cmp.{int_ranked, ranked, int_cmp_is}
 use Rattle.std.specs.Cmp.Lexicographic.{slice_cmp}
 use Rattle.base_laws.proofs.OrderLaws.{slice_cmp-bytes_high_first, slice_cmp-add_one, slice_cmp-filled, slice_cmp-same}
 use Rattle.mq_base.specs.declared.value.Value.{Value}
