@@ -1,8 +1,7 @@
--- Laws of blocks and digit strings: their lengths, that a block determines its value, and that digit strings are in
--- the order of the values.
+-- Laws of blocks and digit strings: a block determines its value, and digit strings are in the order of the values.
 use Rattle.std.proofs.Common.{◌≡◌, ℕ, suc, ◌+◌, ◌-◌, ◌%◌, ◌^◌, ◌<◌, ◌≤◌, ℤ, pos, negsuc, ◌+ℤ◌, ◌<ℤ◌, List, [], ◌∷◌, ◌++◌, length, replicate, set, get_or, take, refl, sym, ◌∙◌, ap, arith}
 use Rattle.std.proofs.lemmas.Int.{ints, to_z-of_z}
-use Rattle.std.proofs.lemmas.List.{append_assoc, append-nil, append_cancel_right, length-append, length-map, length-replicate, set_at, get_or_default, length-take-le, take_more, map-append}
+use Rattle.std.proofs.lemmas.List.{append_assoc, append_cancel_right, length-append, length-map, length-replicate, set_at, get_or_default, length-take-le, take_more, map-append}
 use Rattle.std.proofs.lemmas.List.Elements.{All-map}
 use Rattle.std.specs.Int.{w128, cast_signed, cast_unsigned}
 use Rattle.std.specs.Int.RustNames.{FitsSigned}
@@ -16,7 +15,7 @@ use Rattle.base_laws.proofs.OrderLaws.{slice_cmp-bytes_high_first, slice_cmp-add
 use Rattle.mq_base.specs.declared.value.Value.{Value}
 use Rattle.mq_base.specs.declared.value.Value.TheVariants.{Int, Text}
 use Rattle.mq_base.specs.Value.{type_of, value_cmp}
-use Rattle.mq_base.specs.Bytes.{Fits, shifted, filled, digits, int_block, block_of, digits_of, block_length, digits_length}
+use Rattle.mq_base.specs.Bytes.{Fits, shifted, filled, digits, int_block, block_of, digits_of}
 
 -- ---- INT
 
@@ -83,10 +82,6 @@ filled_more width xs x n at room =
     let longer : length (xs ++ x ∷ []) ≡ suc (length xs) = omega (arith, length-append xs (x ∷ [])) in
     rw (zeros, longer, append_assoc) (set_at xs 0 (replicate (width - suc (length xs)) 0) x n (sym at))
 
--- a list that is as long as the width is filled already
-pub filled_full : (width : ℕ) (xs : List ℕ) → length xs ≡ width → filled width xs ≡ xs
-filled_full width xs full = let none : width - length xs ≡ 0 = omega arith in rw (none, append-nil) refl
-
 -- ---- digits
 
 pub digits_small : (bytes : List ℕ) → ((k : ℕ) → get_or bytes k 0 < 256) → All (λ digit. digit ≤ 256) (digits bytes)
@@ -109,14 +104,6 @@ digits_above : (bytes : List ℕ) → All (λ digit. 0 < digit) (digits bytes)
 digits_above bytes = All-map (λ digit. 0 < digit) (λ byte. byte + 1) bytes (λ k d below. omega arith)
 
 -- ---- values
-
-pub length-block : (v : Value) → Fits v → length (block_of v) ≡ block_length (type_of v)
-length-block (Int x) fits = length-int_block x
-length-block (Text t) fits = length-filled 122 (length t ∷ t) (let short : length t ≤ 120 = fits.short in omega arith)
-
-pub length-digits : (v : Value) → Fits v → length (digits_of v) ≡ digits_length (type_of v)
-length-digits (Int x) fits = length-map (int_block x) (λ byte. byte + 1) ∙ length-int_block x
-length-digits (Text t) fits = length-filled 120 (digits t) (let short : length t ≤ 120 = fits.short in omega (arith, length-map t (λ byte. byte + 1)))
 
 pub block_determines : (v w : Value) → Fits v → Fits w → block_of v ≡ block_of w → v ≡ w
 block_determines (Int x) (Int y) fits fits_too same = ap Int (from_block x y fits.representable fits_too.representable same)

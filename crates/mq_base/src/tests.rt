@@ -1,9 +1,11 @@
 ghost use Rattle.std.specs.Prelude.{◌≡◌, IfOk};
+ghost use Rattle.mq_base.specs.Bytes.{IsShort};
 ghost use Rattle.mq_base.specs.declared.value.Value.TheVariants as value;
 
 use crate::{AttrId, AttrSet, NoMemory, Seq, Text, Value};
 use std::alloc::Global;
 use std::cmp::Ordering;
+use std::process::Abort;
 use std::test::Fail;
 
 fn text(alloc: Global, bytes: &[u8]) -> Result<Value, NoMemory>
@@ -12,14 +14,41 @@ fn text(alloc: Global, bytes: &[u8]) -> Result<Value, NoMemory>
     Ok(Value::Text(Text::copied(alloc, bytes)?))
 }
 
+/// The block is `front` and zeros up to the width, and the place after it stays.
+fn check_block(rt: &impl Abort, value: &Value, width: usize, front: &[u8])
+    requires { IsShort value.now }
+{
+    assert!(rt; front.len() <= width);
+    assert!(rt; width <= 122);
+    let mut want = [7u8; 123];
+    want[..width].fill(0);
+    want[..front.len()].copy_from_slice(front);
+    let mut out = [7u8; 123];
+    assert_eq!(rt; value.block_into(&mut out), width);
+    assert_eq!(rt; out, want);
+}
+
+/// The digit string is `front` and zeros up to the width, and the place after it stays.
+fn check_digits(rt: &impl Abort, value: &Value, width: usize, front: &[u16])
+    requires { IsShort value.now }
+{
+    assert!(rt; front.len() <= width);
+    assert!(rt; width <= 120);
+    let mut want = [7u16; 121];
+    want[..width].fill(0);
+    want[..front.len()].copy_from_slice(front);
+    let mut out = [7u16; 121];
+    assert_eq!(rt; value.digits_into(&mut out), width);
+    assert_eq!(rt; out, want);
+}
+
 #[test]
 fn writes_integers(rt: HostRuntime) {
-    let low = 0x7fff_ffff_ffff_ffff_8000_0000_0000_0000_u128;
     let table = [
-        (i128::MIN, 0, [1; 16]),
+        (i128::MIN, 0_u128, [1; 16]),
         (
             i128::from(i64::MIN),
-            low,
+            0x7fff_ffff_ffff_ffff_8000_0000_0000_0000,
             [
                 128, 256, 256, 256, 256, 256, 256, 256, 129, 1, 1, 1, 1, 1, 1, 1,
             ],
@@ -40,23 +69,15 @@ fn writes_integers(rt: HostRuntime) {
     ];
     for (number, block, digits) in table {
         let value = Value::Int(number);
-        let mut bytes = [7u8; 122];
-        assert_eq!(rt; value.block_into(&mut bytes), 16);
-        assert_eq!(rt;
-            &bytes[..16],
-            block.to_be_bytes().as_slice(),
-            "the block of {number}"
-        );
-        assert_eq!(rt; bytes[16], 7);
-        let mut places = [7u16; 120];
-        assert_eq!(rt; value.digits_into(&mut places), 16);
-        assert_eq!(rt; &places[..16], digits.as_slice(), "the digits of {number}");
-        assert_eq!(rt; places[16], 7);
+        check_block(&rt, &value, 16, &block.to_be_bytes());
+        check_digits(&rt, &value, 16, &digits);
     }
 }
 
 #[test]
 fn writes_texts(rt: HostRuntime) -> Result<(), Fail> {
+    let mut longest = [255u8; 121];
+    longest[0] = 120;
     let table = [
         (b"".as_slice(), [0].as_slice(), [].as_slice()),
         (b"a".as_slice(), [1, 97].as_slice(), [98].as_slice()),
@@ -68,30 +89,15 @@ fn writes_texts(rt: HostRuntime) -> Result<(), Fail> {
         ),
         (
             [255; 120].as_slice(),
-            [120, 255, 255].as_slice(),
+            longest.as_slice(),
             [256; 120].as_slice(),
         ),
     ];
     for (bytes, block, digits) in table {
         assert!(rt; bytes.len() <= 120);
-        assert!(rt; digits.len() <= 120);
         let value = text(rt.alloc(), bytes)?;
-        let mut out = [7u8; 130];
-        assert_eq!(rt; value.block_into(&mut out), 122);
-        assert!(rt; out.starts_with(block), "the block of {bytes:?}");
-        assert!(rt;
-            out[bytes.len() + 1..122].iter().all(|byte| *byte == 0),
-            "the zeros after {bytes:?}"
-        );
-        assert_eq!(rt; out[122], 7);
-        let mut places = [7u16; 130];
-        assert_eq!(rt; value.digits_into(&mut places), 120);
-        assert!(rt; places.starts_with(digits), "the digits of {bytes:?}");
-        assert!(rt;
-            places[digits.len()..120].iter().all(|digit| *digit == 0),
-            "the zeros after {bytes:?}"
-        );
-        assert_eq!(rt; places[120], 7);
+        check_block(&rt, &value, 122, block);
+        check_digits(&rt, &value, 120, digits);
     }
     Ok(())
 }
