@@ -1,4 +1,4 @@
--- The block and the digit string of a value: the bytes and the digits that are sealed. docs/CIPHERS.md, "Blocks and digits", tells them in prose.
+-- The block and the digit string of a value: the bytes and the digits that are sealed. docs/CIPHERS.md, "Values as bytes", tells them in prose.
 use Rattle.std.specs.Prelude.{ℕ, suc, ◌+◌, ◌-◌, ◌^◌, ◌≤◌, ℤ, pos, negsuc, List, ◌∷◌, ◌++◌, length, map, replicate}
 use Rattle.std.specs.Int.{w128, to_be_bytes}
 use Rattle.std.specs.Int.RustNames.{FitsSigned}

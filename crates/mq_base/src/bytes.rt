@@ -11,7 +11,7 @@ use crate::value::Value;
 impl Value {
     /// Writes the block, which determines the value, at the front of `out`, and answers its length: 16 for an
     /// INT and 122 for a TEXT, which has at most 120 bytes. What follows the block stays.
-    /// docs/CIPHERS.md, "Blocks and digits".
+    /// docs/CIPHERS.md, "Values as bytes".
     pub fn block_into(&self, out: &mut [u8]) -> usize
         requires room { 122 ≤ length out.old }
         requires short { IsShort self.now }
@@ -30,7 +30,7 @@ impl Value {
     /// Writes the digit string at the front of `out`, and answers its length: 16 for an INT and 120 for a TEXT,
     /// which has at most 120 bytes. Each digit is at most 256. Digit strings of one type, compared digit by
     /// digit, are in the order of the values. What follows the digit string stays.
-    /// docs/CIPHERS.md, "Blocks and digits".
+    /// docs/CIPHERS.md, "Values as bytes".
     pub fn digits_into(&self, out: &mut [u16]) -> usize
         requires room { 120 ≤ length out.old }
         requires short { IsShort self.now }
