@@ -1,3 +1,4 @@
 pub mod FirstLaws
-pub mod SortLaws
+pub mod OrderLaws
 pub mod SetLaws
+pub mod SortLaws

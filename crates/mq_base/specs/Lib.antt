@@ -1,4 +1,5 @@
 pub mod Value
+pub mod Bytes
 pub mod Schema
 pub mod Table
 pub mod ValueLaws

@@ -3,6 +3,7 @@
 #![tactic(auto)]
 
 mod attr_set;
+mod bytes;
 mod ids;
 mod memory;
 mod plan;
@@ -10,6 +11,8 @@ mod query;
 mod schema;
 mod seq;
 mod table;
+#[cfg(test)]
+mod tests;
 mod text;
 mod value;
 
