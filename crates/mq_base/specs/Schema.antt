@@ -2,7 +2,6 @@
 use Rattle.std.specs.Prelude.{◌≡◌, ℕ, ◌<◌, ◌≤◌, ◌==◌, ◌↔◌, Bool, true, List, length, filter, Option, Some, IfSome, slice_get, option_map}
 use Rattle.base_laws.specs.Sets.{has}
 use Rattle.mq_base.specs.declared.schema.AttrInfo.{AttrInfo}
-use Rattle.mq_base.specs.declared.schema.TableInfo.{TableInfo}
 use Rattle.mq_base.specs.declared.schema.Schema.{Schema}
 
 -- whether a column is one of this table

@@ -1,5 +1,5 @@
 -- The order of values, and what a cell may hold. docs/FORMATS.md, "Table file", says the limits.
-use Rattle.std.specs.Prelude.{◌≡◌, ℕ, ◌≤◌, Bool, ℤ, pos, negsuc, ◌≤ℤ◌, List, length}
+use Rattle.std.specs.Prelude.{◌≤◌, Bool, pos, negsuc, ◌≤ℤ◌, length}
 use Rattle.std.specs.Ordering.{int_cmp, nat_cmp, eq_by_cmp}
 use Rattle.std.specs.declared.cmp.Ordering.{Ordering}
 use Rattle.std.specs.declared.cmp.Ordering.TheVariants.{Less, Greater}

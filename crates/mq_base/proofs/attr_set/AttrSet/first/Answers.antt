@@ -1,4 +1,4 @@
-use Rattle.std.proofs.Common.{ℕ, ◌<◌, ◌^◌, arith}
+use Rattle.std.proofs.Common.{arith}
 use Rattle.base_laws.proofs.SetLaws.{least_from_lowest}
 use Rattle.mq_base.proofs.attr_set.AttrSet.first.Goals as goal
 
