@@ -1,0 +1,109 @@
+ghost use Rattle.std.specs.Prelude.{◌≡◌, ◌<◌, ◌≤◌, ◌==◌, [], true, length, Some, None, IfOk, IsErrOf, MatchOption, unwrap_or};
+ghost use Rattle.outside_io.specs.Outside.{HasDistinctNames, content_of};
+
+use crate::shelf::{Shelf, ShelfNo};
+use mq_base::{Seq, Text};
+use std::alloc::Global;
+
+/// A shelf in memory, whose calls can be made to fail. It tells what it holds.
+#[derive(Debug, Drop)]
+pub struct MemoryShelf {
+    files: Seq<(Text, Text)>,
+    failing: Seq<u64>,
+    calls: u64,
+    taken: usize,
+    faults: u64,
+    failed: Option<Text>,
+}
+
+impl MemoryShelf {
+    /// A shelf of these files, a name and bytes each. Its calls are numbered from 1, and each whose number
+    /// is in `failing` answers `Failed`, whatever is held. A name that is not held answers `Failed` too.
+    /// Of a file that is longer than `most` it takes `most + 1` bytes. It takes no memory.
+    pub fn of(files: Seq<(Text, Text)>, failing: Seq<u64>) -> MemoryShelf
+        requires { HasDistinctNames files }
+        ensures held { ⟦<MemoryShelf as Shelf>⟧.held result ≡ Some files }
+        ensures untaken { ⟦<MemoryShelf as Shelf>⟧.taken result ≡ 0 }
+        ensures no_faults { ⟦<MemoryShelf as Shelf>⟧.faults result ≡ 0 }
+        ensures no_name { ⟦<MemoryShelf as Shelf>⟧.failed result ≡ None }
+        ensures steady { ⟦<MemoryShelf as Shelf>⟧.steady result ≡ (length failing == 0) }
+    {
+        MemoryShelf {
+            files,
+            failing,
+            calls: 0,
+            taken: 0,
+            faults: 0,
+            failed: None,
+        }
+    }
+}
+
+// The bytes of the first file with this name.
+fn find_content<'a>(files: &'a [(Text, Text)], name: &[u8]) -> Option<&'a [u8]>
+    ensures { MatchOption result (content_of files.now name.now ≡ None) (λ bytes. content_of files.now name.now ≡ Some bytes.now) }
+{
+    for file in files {
+        if file.0.as_bytes() == name {
+            return Some(file.1.as_bytes());
+        }
+    }
+    None
+}
+
+// A copy of the bytes of the first file with this name, if there are at most `most`.
+fn copy_content(alloc: Global, files: &[(Text, Text)], name: &[u8], most: usize) -> Result<Vec<u8>, ShelfNo>
+    ensures content { IfOk result (λ bytes. content_of files.now name.now ≡ Some bytes.items) }
+    ensures within { IfOk result (λ bytes. length bytes.items ≤ most) }
+    ensures absent { IsErrOf result ShelfNo.Failed → content_of files.now name.now ≡ None }
+    ensures too_long { IsErrOf result ShelfNo.TooLong → most < length (unwrap_or (content_of files.now name.now) []) }
+    ensures counted { IsErrOf result ShelfNo.TooLong → most < usize.MAX }
+{
+    let Some(bytes) = find_content(files, name) else {
+        return Err(ShelfNo::Failed);
+    };
+    if most < bytes.len() {
+        return Err(ShelfNo::TooLong);
+    }
+    Ok(Vec::from_slice(alloc, bytes)?)
+}
+
+// Whether a call with this number is to fail.
+fn is_failing(failing: &[u64], call: u64) -> bool
+    ensures { result ≡ true → length failing.now ≡ 0 → ⊥ }
+{
+    failing.contains(&call)
+}
+
+impl Shelf for MemoryShelf {
+    ghost held = { λ shelf. Some shelf.files };
+
+    ghost taken = { λ shelf. shelf.taken };
+
+    ghost faults = { λ shelf. shelf.faults };
+
+    ghost failed = { λ shelf. shelf.failed };
+
+    ghost steady = { λ shelf. length shelf.failing == 0 };
+
+    fn read(&mut self, alloc: Global, name: &str, most: usize) -> Result<Vec<u8>, ShelfNo> {
+        self.calls = self.calls.saturating_add(1);
+        self.taken = 0;
+        let asked = Text::copied(alloc, name.as_bytes())?;
+        let answer = if is_failing(self.failing.as_slice(), self.calls) {
+            Err(ShelfNo::Failed)
+        } else {
+            copy_content(alloc, self.files.as_slice(), name.as_bytes(), most)
+        };
+        match &answer {
+            Ok(bytes) => self.taken = bytes.len(),
+            Err(ShelfNo::TooLong) => self.taken = most + 1,
+            Err(ShelfNo::Failed) => {
+                self.faults = self.faults.saturating_add(1);
+                self.failed = Some(asked);
+            }
+            Err(ShelfNo::NoMemory) => {}
+        }
+        answer
+    }
+}

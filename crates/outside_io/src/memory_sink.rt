@@ -1,0 +1,71 @@
+ghost use Rattle.std.specs.Prelude.{◌≡◌, ◌==◌, [], length, Some, IsSome};
+
+use crate::sink::{Sink, SinkNo};
+use mq_base::Seq;
+use std::alloc::Global;
+
+/// A sink in memory, whose calls can be made to fail. It tells what was written.
+#[derive(Debug, Drop)]
+pub struct MemorySink {
+    written: Vec<u8>,
+    failing: Seq<(u64, u64)>,
+    calls: u64,
+    faults: u64,
+}
+
+impl MemorySink {
+    /// An empty sink. Its calls are numbered from 1. A call whose number is the first of a pair in
+    /// `failing` keeps as many bytes of its piece as the second says, or all where the piece is shorter,
+    /// and answers `Failed`. It takes no memory.
+    pub fn of(alloc: Global, failing: Seq<(u64, u64)>) -> MemorySink
+        ensures empty { ⟦<MemorySink as Sink>⟧.written result ≡ Some [] }
+        ensures no_faults { ⟦<MemorySink as Sink>⟧.faults result ≡ 0 }
+        ensures steady { ⟦<MemorySink as Sink>⟧.steady result ≡ (length failing == 0) }
+    {
+        MemorySink {
+            written: Vec::new(alloc),
+            failing,
+            calls: 0,
+            faults: 0,
+        }
+    }
+
+    /// What was written so far. It takes no memory.
+    pub fn written(&self) -> &[u8]
+        ensures { ⟦<MemorySink as Sink>⟧.written self.now ≡ Some result.now }
+    {
+        self.written.as_slice()
+    }
+}
+
+// How many bytes a call with this number keeps, if it is to fail.
+fn kept_at(failing: &[(u64, u64)], call: u64) -> Option<u64>
+    ensures { IsSome result → length failing.now ≡ 0 → ⊥ }
+{
+    for (number, kept) in failing {
+        if *number == call {
+            return Some(*kept);
+        }
+    }
+    None
+}
+
+impl Sink for MemorySink {
+    ghost written = { λ sink. Some sink.written.items };
+
+    ghost faults = { λ sink. sink.faults };
+
+    ghost steady = { λ sink. length sink.failing == 0 };
+
+    fn put(&mut self, piece: &[u8]) -> Result<(), SinkNo> {
+        self.calls = self.calls.saturating_add(1);
+        let Some(kept) = kept_at(self.failing.as_slice(), self.calls) else {
+            self.written.extend_from_slice(piece)?;
+            return Ok(());
+        };
+        let kept = kept.min(piece.len() as u64) as usize;
+        self.written.extend_from_slice(&piece[..kept])?;
+        self.faults = self.faults.saturating_add(1);
+        Err(SinkNo::Failed)
+    }
+}
