@@ -1,5 +1,5 @@
 // The loops over the system's reads and writes.
-ghost use Rattle.std.specs.Prelude.{◌≡◌, ◌≤◌, ◌<◌, ◌++◌, length, IfSome, OnOk, IsErrOf};
+ghost use Rattle.std.specs.Prelude.{◌≡◌, ◌+◌, ◌<◌, ◌≤◌, [], length, IfSome, OnOk, IsErrOf};
 ghost use Rattle.std.specs.Io.KnownBytes.{Appends};
 
 use crate::shelf::ShelfNo;
@@ -9,17 +9,19 @@ use std::io::{Read, Write};
 // The most bytes that one read takes.
 const CHUNK: usize = 8192;
 
-// Reads to the end, onto the end of `into`. It stops with `TooLong` once `into` has more than `most` bytes,
-// and takes at most one byte more than that.
+// Reads to the end. It stops with `TooLong` once more than `most` bytes were taken, and takes at most one
+// byte more. Room is made before each read, so that want of memory loses no byte.
 pub(crate) fn read_within<R: Read>(from: &mut R, into: &mut Vec<u8>, most: usize) -> Result<(), ShelfNo>
-    requires { length into.old.items ≤ most }
+    requires { into.old.items ≡ [] }
+    ensures whole { OnOk result (IfSome (R.remaining from.old) (λ bytes. into.new.items ≡ bytes)) }
     ensures within { OnOk result (length into.new.items ≤ most) }
     ensures too_long { IsErrOf result ShelfNo.TooLong → most < length into.new.items }
-    ensures whole { OnOk result (IfSome (R.remaining from.old) (λ bytes. into.new.items ≡ into.old.items ++ bytes)) }
+    ensures one_more { length into.new.items ≤ most + 1 }
 {
     let mut buffer = [0u8; CHUNK];
     while into.len() <= most {
         let room = (most - into.len()).min(CHUNK - 1) + 1;
+        into.reserve(room)?;
         match from.read(&mut buffer[..room]) {
             Ok(0) => return Ok(()),
             Ok(count) => into.extend_from_slice(&buffer[..count])?,
