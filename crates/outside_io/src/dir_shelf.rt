@@ -1,4 +1,5 @@
-ghost use Rattle.std.specs.Prelude.{◌≡◌, false, None};
+ghost use Rattle.std.specs.Prelude.{◌≡◌, ◌<◌, ◌≤◌, [], false, length, Some, None, IfOk, OnOk, IsErrOf};
+ghost use Rattle.outside_io.specs.Outside.{KeepsName};
 
 use crate::shelf::{Shelf, ShelfNo};
 use crate::stream::read_within;
@@ -8,7 +9,7 @@ use std::fs;
 use std::rt::Files;
 
 /// The files of the system, by path. It tells no content and is not steady. Its count of faults is raised
-/// at every answer that is no content.
+/// at each answer that gives no bytes.
 #[derive(Drop)]
 pub struct DirShelf<'a, R> {
     files: &'a R,
@@ -18,7 +19,7 @@ pub struct DirShelf<'a, R> {
 }
 
 impl<'a, R: Files> DirShelf<'a, R> {
-    /// A shelf over what the runtime gives of files. It takes no memory.
+    /// A shelf over the files that the runtime gives. It takes no memory.
     pub fn new(files: &'a R) -> DirShelf<'a, R> {
         DirShelf {
             files,
@@ -28,20 +29,40 @@ impl<'a, R: Files> DirShelf<'a, R> {
         }
     }
 
-    fn read_file(&mut self, alloc: Global, name: &str, most: usize) -> Result<Vec<u8>, ShelfNo> {
+    // Reads the file at this path, and keeps the path where that fails.
+    fn read_file(&mut self, alloc: Global, name: &str, most: usize) -> Result<Vec<u8>, ShelfNo>
+        ensures within { IfOk result (λ bytes. length bytes.items ≤ most) }
+        ensures too_long { IsErrOf result ShelfNo.TooLong → most < self.new.taken }
+        ensures named { IsErrOf result ShelfNo.Failed → self.new.failed ≡ Some name.now }
+        ensures name_kept { KeepsName result self.old.failed self.new.failed }
+        ensures faults_kept { self.new.faults ≡ self.old.faults }
+    {
         let asked = Text::copied(alloc, name.as_bytes())?;
         let mut bytes = Vec::new(alloc);
         let answer = read_path(self.files, name, &mut bytes, most);
         self.taken = bytes.len();
-        if let Err(ShelfNo::Failed) = answer {
-            self.failed = Some(asked);
+        match answer {
+            Ok(()) => Ok(bytes),
+            Err(ShelfNo::Failed) => {
+                self.failed = Some(asked);
+                Err(ShelfNo::Failed)
+            }
+            Err(no) => Err(no),
         }
-        answer?;
-        Ok(bytes)
     }
 }
 
-fn read_path<R: Files>(files: &R, path: &str, into: &mut Vec<u8>, most: usize) -> Result<(), ShelfNo> {
+// Reads the file at this path into an empty vector.
+fn read_path<R: Files>(
+    files: &R,
+    path: &str,
+    into: &mut Vec<u8>,
+    most: usize,
+) -> Result<(), ShelfNo>
+    requires { into.old.items ≡ [] }
+    ensures within { OnOk result (length into.new.items ≤ most) }
+    ensures too_long { IsErrOf result ShelfNo.TooLong → most < length into.new.items }
+{
     match fs::open(files, path) {
         Ok(mut file) => read_within(&mut file, into, most),
         Err(_) => Err(ShelfNo::Failed),

@@ -52,7 +52,12 @@ fn find_content<'a>(files: &'a [(Text, Text)], name: &[u8]) -> Option<&'a [u8]>
 }
 
 // A copy of the bytes of the first file with this name, if there are at most `most`.
-fn copy_content(alloc: Global, files: &[(Text, Text)], name: &[u8], most: usize) -> Result<Vec<u8>, ShelfNo>
+fn copy_content(
+    alloc: Global,
+    files: &[(Text, Text)],
+    name: &[u8],
+    most: usize,
+) -> Result<Vec<u8>, ShelfNo>
     ensures content { IfOk result (λ bytes. content_of files.now name.now ≡ Some bytes.items) }
     ensures within { IfOk result (λ bytes. length bytes.items ≤ most) }
     ensures absent { IsErrOf result ShelfNo.Failed → content_of files.now name.now ≡ None }

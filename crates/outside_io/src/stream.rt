@@ -11,7 +11,11 @@ const CHUNK: usize = 8192;
 
 // Reads to the end. It stops with `TooLong` once more than `most` bytes were taken, and takes at most one
 // byte more. Room is made before each read, so that want of memory loses no byte.
-pub(crate) fn read_within<R: Read>(from: &mut R, into: &mut Vec<u8>, most: usize) -> Result<(), ShelfNo>
+pub(crate) fn read_within<R: Read>(
+    from: &mut R,
+    into: &mut Vec<u8>,
+    most: usize,
+) -> Result<(), ShelfNo>
     requires { into.old.items ≡ [] }
     ensures whole { OnOk result (IfSome (R.remaining from.old) (λ bytes. into.new.items ≡ bytes)) }
     ensures within { OnOk result (length into.new.items ≤ most) }

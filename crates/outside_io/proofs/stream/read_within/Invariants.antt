@@ -3,11 +3,11 @@ use Rattle.std.proofs.Common.{ℕ, ◌+◌, ◌-◌, ◌≤◌, length}
 use Rattle.std.specs.Io.KnownBytes.{Consumes}
 use Rattle.outside_io.proofs.stream.read_within.Given as goal
 
-abbrev pub invariant-loop-into : goal.invariant-loop-into
-invariant-loop-into g l = record {
+abbrev pub invariant-loop-buffer : goal.invariant-loop-buffer
+invariant-loop-buffer g l = record {
   one_more : length l.into.items ≤ l.most + 1;
-  taken : Consumes (g.R.Read.remaining l.initial.from) (g.R.Read.remaining l.from) l.into.items
+  taken : Consumes (g.R.Read.remaining l.initial.from) (g.R.Read.remaining l.from) l.into.items;
 }
 
-abbrev pub decreases-loop-into : goal.decreases-loop-into
-decreases-loop-into g l = l.most + 1 - length l.into.items
+abbrev pub decreases-loop-buffer : goal.decreases-loop-buffer
+decreases-loop-buffer g l = l.most + 1 - length l.into.items
