@@ -89,3 +89,47 @@ impl<R: Files> Shelf for DirShelf<'_, R> {
         answer
     }
 }
+
+#[cfg(test)]
+mod tests {
+    use super::*;
+    use std::test::Fail;
+    use std::{env, process};
+
+    // Each row is the most bytes that a call takes and its answer: how many bytes came, each of them a 7.
+    #[test]
+    fn a_file_is_read_by_its_path(rt: HostRuntime) -> Result<(), Fail> {
+        let alloc = rt.alloc();
+        let name = format!(in alloc; "outside-io-test-{}", process::id(rt.process()))?;
+        let path = env::temp_dir(&rt)?.join(alloc, name.as_str())?;
+        let content = vec![in alloc; 7; 20_000]?;
+        let mut shelf = DirShelf::new(&rt);
+        assert_eq!(rt;
+            shelf.read(alloc, path.as_str(), 9).map(|bytes| bytes.len()),
+            Err(ShelfNo::Failed)
+        );
+        fs::write(&rt, path.as_str(), content.as_slice())?;
+        for (most, want) in [
+            (20_000, Ok(20_000)),
+            (1 << 60, Ok(20_000)),
+            (19_999, Err(ShelfNo::TooLong)),
+            (0, Err(ShelfNo::TooLong)),
+        ] {
+            let answer = shelf.read(alloc, path.as_str(), most);
+            assert_eq!(rt;
+                shelf.taken,
+                most.saturating_add(1).min(20_000),
+                "at {most}"
+            );
+            assert!(rt;
+                answer
+                    .as_ref()
+                    .map_or(true, |bytes| bytes.iter().all(|byte| *byte == 7))
+            );
+            assert_eq!(rt; answer.map(|bytes| bytes.len()), want, "at {most}");
+        }
+        fs::remove_file(&rt, path.as_str())?;
+        assert_eq!(rt; shelf.faults, 3);
+        Ok(())
+    }
+}

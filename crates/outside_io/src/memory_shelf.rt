@@ -112,3 +112,60 @@ impl Shelf for MemoryShelf {
         answer
     }
 }
+
+#[cfg(test)]
+mod tests {
+    use super::*;
+    use mq_base::NoMemory;
+    use std::test::Fail;
+
+    fn two_files(alloc: Global) -> Result<Seq<(Text, Text)>, NoMemory>
+        ensures distinct { IfOk result (λ files. HasDistinctNames files) }
+    {
+        let mut files = Seq::new(alloc);
+        files.push((Text::copied(alloc, b"plan")?, Text::copied(alloc, b"abc")?))?;
+        files.push((Text::copied(alloc, b"none")?, Text::copied(alloc, b"")?))?;
+        Ok(files)
+    }
+
+    // Each row is a call: its name, the most bytes that it takes, the answer, the bytes taken, the faults so far, and
+    // the name of the last call that failed.
+    #[test]
+    fn calls_are_answered_in_order(rt: HostRuntime) -> Result<(), Fail> {
+        let alloc = rt.alloc();
+        let mut failing = Seq::new(alloc);
+        failing.push(3)?;
+        let mut shelf = MemoryShelf::of(two_files(alloc)?, failing);
+        let rows = [
+            ("plan", 3, Ok("abc"), 3, 0, ""),
+            ("plan", 2, Err(ShelfNo::TooLong), 3, 0, ""),
+            ("plan", 3, Err(ShelfNo::Failed), 0, 1, "plan"),
+            ("none", 0, Ok(""), 0, 1, "plan"),
+            ("other", 9, Err(ShelfNo::Failed), 0, 2, "other"),
+            ("plan", 0, Err(ShelfNo::TooLong), 1, 2, "other"),
+            ("plan", 900, Ok("abc"), 3, 2, "other"),
+        ];
+        for (name, most, want, taken, faults, failed) in rows {
+            match (shelf.read(alloc, name, most), want) {
+                (Ok(bytes), Ok(text)) => assert_eq!(rt;
+                    bytes.as_slice(),
+                    text.as_bytes(),
+                    "{name} {most}"
+                ),
+                (Err(no), Err(other)) => assert_eq!(rt; no, other, "{name} {most}"),
+                (answer, _) => assert!(rt; false, "{name} {most} {answer:?}"),
+            }
+            let kept = shelf
+                .failed
+                .as_ref()
+                .map_or(b"".as_slice(), |text| text.as_bytes());
+            assert_eq!(rt;
+                (shelf.taken, shelf.faults),
+                (taken, faults),
+                "{name} {most}"
+            );
+            assert_eq!(rt; kept, failed.as_bytes(), "{name} {most}");
+        }
+        Ok(())
+    }
+}

@@ -69,3 +69,32 @@ impl Sink for MemorySink {
         Err(SinkNo::Failed)
     }
 }
+
+#[cfg(test)]
+mod tests {
+    use super::*;
+    use std::test::Fail;
+
+    // Each row is a call: its piece, the answer, what was written so far, and the faults so far.
+    #[test]
+    fn pieces_are_kept_in_order(rt: HostRuntime) -> Result<(), Fail> {
+        let alloc = rt.alloc();
+        let mut failing = Seq::new(alloc);
+        failing.push((2, 2))?;
+        failing.push((3, 9))?;
+        let mut sink = MemorySink::of(alloc, failing);
+        let rows = [
+            ("ab", Ok(()), "ab", 0),
+            ("cde", Err(SinkNo::Failed), "abcd", 1),
+            ("fg", Err(SinkNo::Failed), "abcdfg", 2),
+            ("", Ok(()), "abcdfg", 2),
+            ("h", Ok(()), "abcdfgh", 2),
+        ];
+        for (piece, want, written, faults) in rows {
+            assert_eq!(rt; sink.put(piece.as_bytes()), want, "at {piece}");
+            assert_eq!(rt; sink.written(), written.as_bytes(), "at {piece}");
+            assert_eq!(rt; sink.faults, faults, "at {piece}");
+        }
+        Ok(())
+    }
+}
