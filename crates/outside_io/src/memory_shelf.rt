@@ -128,8 +128,8 @@ mod tests {
         Ok(files)
     }
 
-    // Each row is a call: its name, the most bytes that it takes, the answer, the bytes taken, the faults so far, and
-    // the name of the last call that failed.
+    // Each row is a call: its name, the most bytes that it takes, the bytes or why there are none, the bytes
+    // taken, and the faults so far.
     #[test]
     fn calls_are_answered_in_order(rt: HostRuntime) -> Result<(), Fail> {
         let alloc = rt.alloc();
@@ -137,35 +137,30 @@ mod tests {
         failing.push(3)?;
         let mut shelf = MemoryShelf::of(two_files(alloc)?, failing);
         let rows = [
-            ("plan", 3, Ok("abc"), 3, 0, ""),
-            ("plan", 2, Err(ShelfNo::TooLong), 3, 0, ""),
-            ("plan", 3, Err(ShelfNo::Failed), 0, 1, "plan"),
-            ("none", 0, Ok(""), 0, 1, "plan"),
-            ("other", 9, Err(ShelfNo::Failed), 0, 2, "other"),
-            ("plan", 0, Err(ShelfNo::TooLong), 1, 2, "other"),
-            ("plan", 900, Ok("abc"), 3, 2, "other"),
+            ("plan", 3, Ok("abc"), 3, 0),
+            ("plan", 2, Err(ShelfNo::TooLong), 3, 0),
+            ("plan", 3, Err(ShelfNo::Failed), 0, 1),
+            ("none", 0, Ok(""), 0, 1),
+            ("plan", 0, Err(ShelfNo::TooLong), 1, 1),
+            ("other", 9, Err(ShelfNo::Failed), 0, 2),
+            ("plan", 900, Ok("abc"), 3, 2),
         ];
-        for (name, most, want, taken, faults, failed) in rows {
-            match (shelf.read(alloc, name, most), want) {
-                (Ok(bytes), Ok(text)) => assert_eq!(rt;
-                    bytes.as_slice(),
-                    text.as_bytes(),
+        for (name, most, want, taken, faults) in rows {
+            match shelf.read(alloc, name, most) {
+                Ok(bytes) => assert_eq!(rt;
+                    want.map(|text| text.as_bytes()),
+                    Ok(bytes.as_slice()),
                     "{name} {most}"
                 ),
-                (Err(no), Err(other)) => assert_eq!(rt; no, other, "{name} {most}"),
-                (answer, _) => assert!(rt; false, "{name} {most} {answer:?}"),
+                Err(no) => assert_eq!(rt; want.err(), Some(no), "{name} {most}"),
             }
-            let kept = shelf
-                .failed
-                .as_ref()
-                .map_or(b"".as_slice(), |text| text.as_bytes());
             assert_eq!(rt;
                 (shelf.taken, shelf.faults),
                 (taken, faults),
                 "{name} {most}"
             );
-            assert_eq!(rt; kept, failed.as_bytes(), "{name} {most}");
         }
+        assert_eq!(rt; shelf.failed, Some(Text::copied(alloc, b"other")?));
         Ok(())
     }
 }
