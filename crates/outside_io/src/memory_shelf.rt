@@ -1,5 +1,7 @@
 ghost use Rattle.std.specs.Prelude.{◌≡◌, ◌<◌, ◌≤◌, ◌==◌, [], true, length, Some, None, IfOk, IsErrOf, MatchOption, unwrap_or};
-ghost use Rattle.outside_io.specs.Outside.{HasDistinctNames, content_of};
+ghost use Rattle.std.specs.List.{list_any};
+ghost use Rattle.outside_io.specs.Outside.{HasDistinctNames, content_of, IsHeld, IsAbsent, TakesWithin, Rose, KeepsName};
+ghost use Rattle.outside_io.specs.Scripts.{next_call, answer_within, scripted_answer, IsAnswer};
 
 use crate::shelf::{Shelf, ShelfNo};
 use mq_base::{Seq, Text};
@@ -17,6 +19,8 @@ pub struct MemoryShelf {
 }
 
 impl MemoryShelf {
+    ghost use Rattle.outside_io.specs.MemoryShelf.{failing_of, calls_of};
+
     /// A shelf of these files, a name and bytes each. Its calls are numbered from 1, and each whose number
     /// is in `failing` answers `Failed`, whatever is held. A name that is not held answers `Failed` too.
     /// Of a file that is longer than `most` it takes `most + 1` bytes. It takes no memory.
@@ -27,6 +31,8 @@ impl MemoryShelf {
         ensures no_faults { ⟦<MemoryShelf as Shelf>⟧.faults result ≡ 0 }
         ensures no_name { ⟦<MemoryShelf as Shelf>⟧.failed result ≡ None }
         ensures steady { ⟦<MemoryShelf as Shelf>⟧.steady result ≡ (length failing == 0) }
+        ensures scripted { failing_of result ≡ failing }
+        ensures no_calls { calls_of result ≡ 0 }
     {
         MemoryShelf {
             files,
@@ -58,6 +64,7 @@ fn copy_content(
     name: &[u8],
     most: usize,
 ) -> Result<Vec<u8>, ShelfNo>
+    ensures answer { IsAnswer (answer_within (content_of files.now name.now) most) result }
     ensures content { IfOk result (λ bytes. content_of files.now name.now ≡ Some bytes.items) }
     ensures within { IfOk result (λ bytes. length bytes.items ≤ most) }
     ensures absent { IsErrOf result ShelfNo.Failed → content_of files.now name.now ≡ None }
@@ -75,12 +82,14 @@ fn copy_content(
 
 // Whether a call with this number is to fail.
 fn is_failing(failing: &[u64], call: u64) -> bool
-    ensures { result ≡ true → length failing.now ≡ 0 → ⊥ }
+    ensures { result ≡ list_any (λ number. number == call) failing.now }
 {
-    failing.contains(&call)
+    failing.iter().any(|number| *number == call)
 }
 
 impl Shelf for MemoryShelf {
+    ghost use Rattle.outside_io.specs.MemoryShelf.{files_of, failing_of, calls_of};
+
     ghost held = { λ shelf. Some shelf.files };
 
     ghost taken = { λ shelf. shelf.taken };
@@ -91,7 +100,22 @@ impl Shelf for MemoryShelf {
 
     ghost steady = { λ shelf. length shelf.failing == 0 };
 
-    fn read(&mut self, alloc: Global, name: &str, most: usize) -> Result<Vec<u8>, ShelfNo> {
+    // The trait's clauses, and on top of them what each call answers.
+    fn read(&mut self, alloc: Global, name: &str, most: usize) -> Result<Vec<u8>, ShelfNo>
+        ensures scripted { IsAnswer (scripted_answer (failing_of self.old) (next_call (calls_of self.old)) (files_of self.old) name.now most) result }
+        ensures counted { calls_of self.new ≡ next_call (calls_of self.old) }
+        ensures script_kept { failing_of self.new ≡ failing_of self.old }
+        ensures content { IfOk result (λ bytes. IsHeld (⟦<MemoryShelf as Shelf>⟧.held self.old) name.now bytes.items) }
+        ensures within { IfOk result (λ bytes. length bytes.items ≤ most) }
+        ensures fault { IsErrOf result ShelfNo.Failed → Rose (⟦<MemoryShelf as Shelf>⟧.faults self.old) (⟦<MemoryShelf as Shelf>⟧.faults self.new) }
+        ensures named { IsErrOf result ShelfNo.Failed → ⟦<MemoryShelf as Shelf>⟧.failed self.new ≡ Some name.now }
+        ensures name_kept { KeepsName result (⟦<MemoryShelf as Shelf>⟧.failed self.old) (⟦<MemoryShelf as Shelf>⟧.failed self.new) }
+        ensures absent { ⟦<MemoryShelf as Shelf>⟧.steady self.old ≡ true → IsErrOf result ShelfNo.Failed → IsAbsent (⟦<MemoryShelf as Shelf>⟧.held self.old) name.now }
+        ensures too_long { IsErrOf result ShelfNo.TooLong → most < ⟦<MemoryShelf as Shelf>⟧.taken self.new }
+        ensures taken { TakesWithin (⟦<MemoryShelf as Shelf>⟧.held self.old) name.now (⟦<MemoryShelf as Shelf>⟧.taken self.new) }
+        ensures held_kept { ⟦<MemoryShelf as Shelf>⟧.held self.new ≡ ⟦<MemoryShelf as Shelf>⟧.held self.old }
+        ensures rising { ⟦<MemoryShelf as Shelf>⟧.faults self.old ≤ ⟦<MemoryShelf as Shelf>⟧.faults self.new }
+    {
         self.calls = self.calls.saturating_add(1);
         self.taken = 0;
         let asked = Text::copied(alloc, name.as_bytes())?;
