@@ -9,7 +9,8 @@ use std::fs;
 use std::rt::Files;
 
 /// The files of the system, by path. It tells no content and is not steady. Its count of faults is raised
-/// at each answer that gives no bytes.
+/// at each answer that gives no bytes. A read that the system interrupted is a fault. Of a file that is
+/// longer than `most` it takes `most + 1` bytes, and memory is taken as the file comes in.
 #[derive(Drop)]
 pub struct DirShelf<'a, R> {
     files: &'a R,
@@ -20,7 +21,10 @@ pub struct DirShelf<'a, R> {
 
 impl<'a, R: Files> DirShelf<'a, R> {
     /// A shelf over the files that the runtime gives. It takes no memory.
-    pub fn new(files: &'a R) -> DirShelf<'a, R> {
+    pub fn new(files: &'a R) -> DirShelf<'a, R>
+        ensures no_faults { ⟦<DirShelf<'a, R> as Shelf>⟧.faults result ≡ 0 }
+        ensures no_name { ⟦<DirShelf<'a, R> as Shelf>⟧.failed result ≡ None }
+    {
         DirShelf {
             files,
             taken: 0,

@@ -7,7 +7,8 @@ use crate::stream::write_whole;
 use std::io::Write;
 
 /// A writer of the system, such as standard output. It tells no content and is not steady. Its count of
-/// faults is raised at every put that fails.
+/// faults is raised at each put that fails. A write that takes nothing is a fault, and so is one that the
+/// system interrupted.
 #[derive(Drop)]
 pub struct StdSink<W> {
     writer: W,
@@ -15,8 +16,13 @@ pub struct StdSink<W> {
 }
 
 impl<W: Write + Drop> StdSink<W> {
+    ghost use Rattle.outside_io.specs.StdSink.{writer_of};
+
     /// A sink over this writer. Each put ends with a flush, so nothing is held back. It takes no memory.
-    pub fn new(writer: W) -> StdSink<W> {
+    pub fn new(writer: W) -> StdSink<W>
+        ensures over { writer_of result ≡ writer }
+        ensures no_faults { ⟦<StdSink<W> as Sink>⟧.faults result ≡ 0 }
+    {
         StdSink { writer, faults: 0 }
     }
 }

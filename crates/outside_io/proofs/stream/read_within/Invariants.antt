@@ -1,5 +1,5 @@
 -- What was taken from the reader stands in the vector, and each turn takes at least one byte.
-use Rattle.std.proofs.Common.{ℕ, ◌+◌, ◌-◌, ◌≤◌, length}
+use Rattle.std.proofs.Common.{◌+◌, ◌-◌, ◌≤◌, length}
 use Rattle.std.specs.Io.KnownBytes.{Consumes}
 use Rattle.outside_io.proofs.stream.read_within.Given as goal
 
