@@ -109,7 +109,7 @@ mod tests {
         let content = vec![in alloc; 7; 20_000]?;
         let mut shelf = DirShelf::new(&rt);
         assert_eq!(rt;
-            shelf.read(alloc, path.as_str(), 9).err(),
+            shelf.read(alloc, "no/such/file", 9).err(),
             Some(ShelfNo::Failed)
         );
         fs::write(&rt, path.as_str(), content.as_slice())?;
