@@ -1,0 +1,5 @@
+pub mod Outside
+pub mod Scripts
+pub mod MemoryShelf
+pub mod MemorySink
+pub mod StdSink

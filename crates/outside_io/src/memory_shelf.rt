@@ -1,0 +1,190 @@
+ghost use Rattle.std.specs.Prelude.{◌≡◌, ◌<◌, ◌≤◌, ◌==◌, [], true, length, Some, None, IfOk, IsErrOf, MatchOption, unwrap_or};
+ghost use Rattle.std.specs.List.{list_any};
+ghost use Rattle.outside_io.specs.Outside.{HasDistinctNames, content_of, IsHeld, IsAbsent, TakesWithin, Rose, KeepsName};
+ghost use Rattle.outside_io.specs.Scripts.{next_call, answer_within, scripted_answer, IsAnswer};
+
+use crate::shelf::{Shelf, ShelfNo};
+use mq_base::{Seq, Text};
+use std::alloc::Global;
+
+/// A shelf in memory, whose calls can be made to fail. It tells what it holds.
+#[derive(Debug, Drop)]
+pub struct MemoryShelf {
+    files: Seq<(Text, Text)>,
+    failing: Seq<u64>,
+    calls: u64,
+    taken: usize,
+    faults: u64,
+    failed: Option<Text>,
+}
+
+impl MemoryShelf {
+    ghost use Rattle.outside_io.specs.MemoryShelf.{failing_of, calls_of};
+
+    /// A shelf of these files, a name and bytes each. Its calls are numbered from 1, and each whose number
+    /// is in `failing` answers `Failed`, whatever is held. A name that is not held answers `Failed` too.
+    /// Of a file that is longer than `most` it takes `most + 1` bytes. It takes no memory.
+    pub fn of(files: Seq<(Text, Text)>, failing: Seq<u64>) -> MemoryShelf
+        requires { HasDistinctNames files }
+        ensures held { ⟦<MemoryShelf as Shelf>⟧.held result ≡ Some files }
+        ensures untaken { ⟦<MemoryShelf as Shelf>⟧.taken result ≡ 0 }
+        ensures no_faults { ⟦<MemoryShelf as Shelf>⟧.faults result ≡ 0 }
+        ensures no_name { ⟦<MemoryShelf as Shelf>⟧.failed result ≡ None }
+        ensures steady { ⟦<MemoryShelf as Shelf>⟧.steady result ≡ (length failing == 0) }
+        ensures scripted { failing_of result ≡ failing }
+        ensures no_calls { calls_of result ≡ 0 }
+    {
+        MemoryShelf {
+            files,
+            failing,
+            calls: 0,
+            taken: 0,
+            faults: 0,
+            failed: None,
+        }
+    }
+}
+
+// The bytes of the first file with this name.
+fn find_content<'a>(files: &'a [(Text, Text)], name: &[u8]) -> Option<&'a [u8]>
+    ensures { MatchOption result (content_of files.now name.now ≡ None) (λ bytes. content_of files.now name.now ≡ Some bytes.now) }
+{
+    for file in files {
+        if file.0.as_bytes() == name {
+            return Some(file.1.as_bytes());
+        }
+    }
+    None
+}
+
+// A copy of the bytes of the first file with this name, if there are at most `most`.
+fn copy_content(
+    alloc: Global,
+    files: &[(Text, Text)],
+    name: &[u8],
+    most: usize,
+) -> Result<Vec<u8>, ShelfNo>
+    ensures answer { IsAnswer (answer_within (content_of files.now name.now) most) result }
+    ensures content { IfOk result (λ bytes. content_of files.now name.now ≡ Some bytes.items) }
+    ensures within { IfOk result (λ bytes. length bytes.items ≤ most) }
+    ensures absent { IsErrOf result ShelfNo.Failed → content_of files.now name.now ≡ None }
+    ensures too_long { IsErrOf result ShelfNo.TooLong → most < length (unwrap_or (content_of files.now name.now) []) }
+    ensures counted { IsErrOf result ShelfNo.TooLong → most < usize.MAX }
+{
+    let Some(bytes) = find_content(files, name) else {
+        return Err(ShelfNo::Failed);
+    };
+    if most < bytes.len() {
+        return Err(ShelfNo::TooLong);
+    }
+    Ok(Vec::from_slice(alloc, bytes)?)
+}
+
+// Whether a call with this number is to fail.
+fn is_failing(failing: &[u64], call: u64) -> bool
+    ensures { result ≡ list_any (λ number. number == call) failing.now }
+{
+    failing.iter().any(|number| *number == call)
+}
+
+impl Shelf for MemoryShelf {
+    ghost use Rattle.outside_io.specs.MemoryShelf.{files_of, failing_of, calls_of};
+
+    ghost held = { λ shelf. Some shelf.files };
+
+    ghost taken = { λ shelf. shelf.taken };
+
+    ghost faults = { λ shelf. shelf.faults };
+
+    ghost failed = { λ shelf. shelf.failed };
+
+    ghost steady = { λ shelf. length shelf.failing == 0 };
+
+    // The trait's clauses, and on top of them what each call answers.
+    fn read(&mut self, alloc: Global, name: &str, most: usize) -> Result<Vec<u8>, ShelfNo>
+        ensures scripted { IsAnswer (scripted_answer (failing_of self.old) (next_call (calls_of self.old)) (files_of self.old) name.now most) result }
+        ensures counted { calls_of self.new ≡ next_call (calls_of self.old) }
+        ensures script_kept { failing_of self.new ≡ failing_of self.old }
+        ensures content { IfOk result (λ bytes. IsHeld (⟦<MemoryShelf as Shelf>⟧.held self.old) name.now bytes.items) }
+        ensures within { IfOk result (λ bytes. length bytes.items ≤ most) }
+        ensures fault { IsErrOf result ShelfNo.Failed → Rose (⟦<MemoryShelf as Shelf>⟧.faults self.old) (⟦<MemoryShelf as Shelf>⟧.faults self.new) }
+        ensures named { IsErrOf result ShelfNo.Failed → ⟦<MemoryShelf as Shelf>⟧.failed self.new ≡ Some name.now }
+        ensures name_kept { KeepsName result (⟦<MemoryShelf as Shelf>⟧.failed self.old) (⟦<MemoryShelf as Shelf>⟧.failed self.new) }
+        ensures absent { ⟦<MemoryShelf as Shelf>⟧.steady self.old ≡ true → IsErrOf result ShelfNo.Failed → IsAbsent (⟦<MemoryShelf as Shelf>⟧.held self.old) name.now }
+        ensures too_long { IsErrOf result ShelfNo.TooLong → most < ⟦<MemoryShelf as Shelf>⟧.taken self.new }
+        ensures taken { TakesWithin (⟦<MemoryShelf as Shelf>⟧.held self.old) name.now (⟦<MemoryShelf as Shelf>⟧.taken self.new) }
+        ensures held_kept { ⟦<MemoryShelf as Shelf>⟧.held self.new ≡ ⟦<MemoryShelf as Shelf>⟧.held self.old }
+        ensures rising { ⟦<MemoryShelf as Shelf>⟧.faults self.old ≤ ⟦<MemoryShelf as Shelf>⟧.faults self.new }
+    {
+        self.calls = self.calls.saturating_add(1);
+        self.taken = 0;
+        let asked = Text::copied(alloc, name.as_bytes())?;
+        let answer = if is_failing(self.failing.as_slice(), self.calls) {
+            Err(ShelfNo::Failed)
+        } else {
+            copy_content(alloc, self.files.as_slice(), name.as_bytes(), most)
+        };
+        match &answer {
+            Ok(bytes) => self.taken = bytes.len(),
+            Err(ShelfNo::TooLong) => self.taken = most + 1,
+            Err(ShelfNo::Failed) => {
+                self.faults = self.faults.saturating_add(1);
+                self.failed = Some(asked);
+            }
+            Err(ShelfNo::NoMemory) => {}
+        }
+        answer
+    }
+}
+
+#[cfg(test)]
+mod tests {
+    use super::*;
+    use mq_base::NoMemory;
+    use std::test::Fail;
+
+    fn two_files(alloc: Global) -> Result<Seq<(Text, Text)>, NoMemory>
+        ensures distinct { IfOk result (λ files. HasDistinctNames files) }
+    {
+        let mut files = Seq::new(alloc);
+        files.push((Text::copied(alloc, b"plan")?, Text::copied(alloc, b"abc")?))?;
+        files.push((Text::copied(alloc, b"none")?, Text::copied(alloc, b"")?))?;
+        Ok(files)
+    }
+
+    // Each row is a call: its name, the most bytes that it takes, the bytes or why there are none, the bytes
+    // taken, and the faults so far.
+    #[test]
+    fn calls_are_answered_in_order(rt: HostRuntime) -> Result<(), Fail> {
+        let alloc = rt.alloc();
+        let mut failing = Seq::new(alloc);
+        failing.push(3)?;
+        let mut shelf = MemoryShelf::of(two_files(alloc)?, failing);
+        let rows = [
+            ("plan", 3, Ok("abc"), 3, 0),
+            ("plan", 2, Err(ShelfNo::TooLong), 3, 0),
+            ("plan", 3, Err(ShelfNo::Failed), 0, 1),
+            ("none", 0, Ok(""), 0, 1),
+            ("plan", 0, Err(ShelfNo::TooLong), 1, 1),
+            ("other", 9, Err(ShelfNo::Failed), 0, 2),
+            ("plan", 900, Ok("abc"), 3, 2),
+        ];
+        for (name, most, want, taken, faults) in rows {
+            match shelf.read(alloc, name, most) {
+                Ok(bytes) => assert_eq!(rt;
+                    want.map(|text| text.as_bytes()),
+                    Ok(bytes.as_slice()),
+                    "{name} {most}"
+                ),
+                Err(no) => assert_eq!(rt; want.err(), Some(no), "{name} {most}"),
+            }
+            assert_eq!(rt;
+                (shelf.taken, shelf.faults),
+                (taken, faults),
+                "{name} {most}"
+            );
+        }
+        assert_eq!(rt; shelf.failed, Some(Text::copied(alloc, b"other")?));
+        Ok(())
+    }
+}
