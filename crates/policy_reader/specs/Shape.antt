@@ -9,8 +9,8 @@ use Rattle.policy_reader.specs.declared.raw.RawColumn.{RawColumn}
 use Rattle.policy_reader.specs.declared.raw.RawTable.{RawTable}
 use Rattle.policy_reader.specs.declared.raw.RawRule.{RawRule}
 use Rattle.policy_reader.specs.declared.raw.RawPolicy.{RawPolicy}
-use Rattle.policy_reader.specs.declared.shape.ShapeError.{ShapeError}
-use Rattle.policy_reader.specs.declared.shape.ShapeError.TheVariants.{WrongShape, NoMemory}
+use Rattle.policy_reader.specs.declared.read_error.ReadError.{ReadError}
+use Rattle.policy_reader.specs.declared.read_error.ReadError.TheVariants.{Malformed, NoMemory}
 use Rattle.policy_reader.specs.Names.{is_one_of}
 
 infixl 10 ◌>>=◌
@@ -19,10 +19,14 @@ infixl 10 ◌>>=◌
 abbrev ◌>>=◌ : {A B : Type 0} → Option A → (A → Option B) → Option B
 o >>= f = option_and_then f o
 
+-- whether every key of a table passes a test
+abbrev pub keys_pass : (List ℕ → Bool) → Members → Bool
+keys_pass test no_members = true
+keys_pass test (member key value rest) = test key && keys_pass test rest
+
 -- whether every key of a table is one of these
 abbrev pub has_only : List (List ℕ) → Members → Bool
-has_only keys no_members = true
-has_only keys (member key value rest) = is_one_of key keys && has_only keys rest
+has_only keys entries = keys_pass (λ key. is_one_of key keys) entries
 
 -- what stands at a key that must stand there
 abbrev pub field : {A : Type 0} → (Data → Option A) → List ℕ → Members → Option A
@@ -119,8 +123,8 @@ policy_as entries =
     if has_only (codes "version" ∷ codes "user" ∷ codes "subjects" ∷ codes "table" ∷ codes "rule" ∷ []) entries
     then policy_of entries else None
 
--- a reader's answer: what the tree gives, and WrongShape where it gives nothing; memory may be wanting instead
-abbrev pub Reads : {A : Type 0} → Result A ShapeError → Option A → Type 0
+-- a reader's answer: what the tree gives, and Malformed where it gives nothing; memory may be wanting instead
+abbrev pub Reads : {A : Type 0} → Result A ReadError → Option A → Type 0
 Reads (Ok value) expected = expected ≡ Some value
-Reads (Err WrongShape) expected = expected ≡ None
+Reads (Err Malformed) expected = expected ≡ None
 Reads (Err NoMemory) expected = Unit {0}

@@ -2,11 +2,14 @@
 //! order that docs/FORMATS.md, "Policy file", states. It stands on the plain types of `mq_base`.
 #![tactic(auto)]
 
+mod check;
 mod fault;
 mod grants;
+mod names;
 mod policy;
 mod raw;
 mod read;
+mod read_error;
 mod refusal;
 mod shape;
 
