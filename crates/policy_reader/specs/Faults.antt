@@ -19,7 +19,7 @@ abbrev pub test_at : {T : Type 0} → (T → Option Fault) → List T → ℕ �
 test_at test items place = option_and_then test (slice_get items place)
 
 -- what a check found: its fault, or nothing
-abbrev pub fault_of : Result (Unit {0}) Fault → Option Fault
+abbrev pub fault_of : {A : Type 0} → Result A Fault → Option Fault
 fault_of (Ok passed) = None
 fault_of (Err found) = Some found
 

@@ -33,9 +33,13 @@ single first (Some place) = 2 ^ (first + place)
 abbrev pub named : ℕ → List RawColumn → List ℕ → ℕ
 named first columns name = single first (position (is_column name) columns)
 
+-- the set of the column that the string at a place of a list names
+abbrev pub named_at : ℕ → List RawColumn → List (List ℕ) → ℕ → ℕ
+named_at first columns names place = option_map_or (named first columns) (slice_get names place) 0
+
 -- the set of the columns that a list names; the same name twice counts once
 abbrev pub listed : ℕ → List RawColumn → List (List ℕ) → ℕ
-listed first columns names = union_to (λ place. option_map_or (named first columns) (slice_get names place) 0) (length names)
+listed first columns names = union_to (named_at first columns names) (length names)
 
 -- a grant of nothing
 abbrev pub nothing : Grant

@@ -20,17 +20,26 @@ is_rule table subject rule = bytes_eq rule.table table && bytes_eq rule.subject 
 abbrev pub may_speak_of : List (List ℕ) → List ℕ → Bool
 may_speak_of subjects subject = is_one_of subject subjects || bytes_eq subject any_subject
 
--- a string of `plain` is a column of the rule's table
-abbrev pub plain_fault : List RawColumn → List (List ℕ) → ℕ → ℕ → Option Fault
-plain_fault columns plain at place =
-    test_at (λ name. if has_column name columns then None else fault UnknownAttribute at place) plain place
+-- a string is a column of the rule's table
+abbrev pub unknown_fault : List RawColumn → ℕ → ℕ → List ℕ → Option Fault
+unknown_fault columns at item name = if has_column name columns then None else fault UnknownAttribute at item
 
--- a string of `sealed` is a column of the rule's table, and does not stand in `plain` too; its item counts on
+-- a string does not stand in `plain`
+abbrev pub overlap_fault : List (List ℕ) → ℕ → ℕ → List ℕ → Option Fault
+overlap_fault plain at item name = if is_one_of name plain then fault Overlap at item else None
+
+-- a string of `plain`
+abbrev pub plain_fault : List RawColumn → List (List ℕ) → ℕ → ℕ → Option Fault
+plain_fault columns plain at place = test_at (unknown_fault columns at place) plain place
+
+-- a string of `sealed`, as one with this item
+abbrev pub sealed_string_fault : List RawColumn → List (List ℕ) → ℕ → ℕ → List ℕ → Option Fault
+sealed_string_fault columns plain at item name =
+    or_else (unknown_fault columns at item name) (overlap_fault plain at item name)
+
+-- a string of `sealed`; its item counts on from those of `plain`
 abbrev pub sealed_fault : List RawColumn → List (List ℕ) → List (List ℕ) → ℕ → ℕ → Option Fault
-sealed_fault columns plain sealed at place = test_at
-    (λ name. if not (has_column name columns) then fault UnknownAttribute at (length plain + place)
-        else if is_one_of name plain then fault Overlap at (length plain + place) else None)
-    sealed place
+sealed_fault columns plain sealed at place = test_at (sealed_string_fault columns plain at (length plain + place)) sealed place
 
 -- the strings of a rule: those of `plain`, then those of `sealed`
 abbrev pub strings_fault : List RawColumn → List (List ℕ) → List (List ℕ) → ℕ → Option Fault

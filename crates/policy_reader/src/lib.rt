@@ -11,6 +11,7 @@ mod raw;
 mod read;
 mod read_error;
 mod refusal;
+mod rules;
 mod shape;
 
 pub use policy::Policy;
