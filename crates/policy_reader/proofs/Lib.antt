@@ -1,3 +1,4 @@
+pub mod GrantLaws
 pub mod Places
 pub mod RuleLaws
 pub mod ShapeLaws

@@ -7,7 +7,6 @@ use Rattle.policy_reader.specs.declared.grants.Grant.{Grant}
 use Rattle.policy_reader.specs.declared.raw.RawColumn.{RawColumn}
 use Rattle.policy_reader.specs.declared.raw.RawTable.{RawTable}
 use Rattle.policy_reader.specs.declared.raw.RawRule.{RawRule}
-use Rattle.policy_reader.specs.declared.raw.RawPolicy.{RawPolicy}
 use Rattle.policy_reader.specs.Names.{any_subject}
 use Rattle.policy_reader.specs.Faults.{is_column, column_count}
 use Rattle.policy_reader.specs.Rules.{is_rule}
@@ -69,13 +68,18 @@ table_grant rules subject first table =
     if bytes_eq subject table.owner then everything first table
     else said first table (option_or (rule_for table subject rules) (rule_for table any_subject rules))
 
+-- what the rule `any` says on the table with this id
+abbrev pub any_grant : List RawTable → List RawRule → ℕ → Grant
+any_grant tables rules t = option_map_or
+    (λ (table : RawTable). said (first_id tables t) table (rule_for table any_subject rules)) (slice_get tables t) nothing
+
 -- the grant on the table with this id
-abbrev pub grant : RawPolicy → List ℕ → ℕ → Grant
-grant raw subject t = option_map_or (table_grant raw.rules subject (first_id raw.tables t)) (slice_get raw.tables t) nothing
+abbrev pub grant : List RawTable → List RawRule → List ℕ → ℕ → Grant
+grant tables rules subject t = option_map_or (table_grant rules subject (first_id tables t)) (slice_get tables t) nothing
 
 -- all that a subject may see plain, and all that it may see sealed: the unions over all tables
-abbrev pub all_plain : RawPolicy → List ℕ → ℕ
-all_plain raw subject = union_to (λ t. (grant raw subject t).plain.0) (length raw.tables)
+abbrev pub all_plain : List RawTable → List RawRule → List ℕ → ℕ
+all_plain tables rules subject = union_to (λ t. (grant tables rules subject t).plain.0) (length tables)
 
-abbrev pub all_sealed : RawPolicy → List ℕ → ℕ
-all_sealed raw subject = union_to (λ t. (grant raw subject t).sealed.0) (length raw.tables)
+abbrev pub all_sealed : List RawTable → List RawRule → List ℕ → ℕ
+all_sealed tables rules subject = union_to (λ t. (grant tables rules subject t).sealed.0) (length tables)

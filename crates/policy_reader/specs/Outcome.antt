@@ -51,8 +51,8 @@ policy_value raw = record {
   schema = record { tables = tables_from raw.subjects 0 raw.tables; attrs = columns_from 0 raw.tables };
   subjects = raw.subjects;
   user = subject_id raw.subjects raw.user;
-  plain = sixteen (map (λ subject. set_of (all_plain raw subject)) raw.subjects);
-  sealed = sixteen (map (λ subject. set_of (all_sealed raw subject)) raw.subjects) }
+  plain = sixteen (map (λ subject. set_of (all_plain raw.tables raw.rules subject)) raw.subjects);
+  sealed = sixteen (map (λ subject. set_of (all_sealed raw.tables raw.rules subject)) raw.subjects) }
 
 -- a refusal without a place
 abbrev pub syntax_fault : Fault
@@ -83,7 +83,7 @@ abbrev pub policy_outcome : List ℕ → Result Policy Fault
 policy_outcome bytes = tree_outcome (tree_of bytes)
 
 -- an answer is the outcome; memory may be wanting instead
-abbrev pub Answers : Result Policy PolicyNo → Result Policy Fault → Type 0
-Answers (Ok policy) outcome = outcome ≡ Ok policy
+abbrev pub Answers : {A : Type 0} → Result A PolicyNo → Result A Fault → Type 0
+Answers (Ok value) outcome = outcome ≡ Ok value
 Answers (Err (Refused code at item)) outcome = outcome ≡ Err (record { code = code; at = at; item = item })
 Answers (Err NoMemory) outcome = Unit {0}

@@ -32,14 +32,13 @@ overlap_fault plain at item name = if is_one_of name plain then fault Overlap at
 abbrev pub plain_fault : List RawColumn → List (List ℕ) → ℕ → ℕ → Option Fault
 plain_fault columns plain at place = test_at (unknown_fault columns at place) plain place
 
--- a string of `sealed`, as one with this item
+-- the string of `sealed` at a place; its item counts on from those of `plain`
 abbrev pub sealed_string_fault : List RawColumn → List (List ℕ) → ℕ → ℕ → List ℕ → Option Fault
-sealed_string_fault columns plain at item name =
-    or_else (unknown_fault columns at item name) (overlap_fault plain at item name)
+sealed_string_fault columns plain at place name =
+    or_else (unknown_fault columns at (length plain + place) name) (overlap_fault plain at (length plain + place) name)
 
--- a string of `sealed`; its item counts on from those of `plain`
 abbrev pub sealed_fault : List RawColumn → List (List ℕ) → List (List ℕ) → ℕ → ℕ → Option Fault
-sealed_fault columns plain sealed at place = test_at (sealed_string_fault columns plain at (length plain + place)) sealed place
+sealed_fault columns plain sealed at place = test_at (sealed_string_fault columns plain at place) sealed place
 
 -- the strings of a rule: those of `plain`, then those of `sealed`
 abbrev pub strings_fault : List RawColumn → List (List ℕ) → List (List ℕ) → ℕ → Option Fault

@@ -29,7 +29,7 @@ fn check_limit(limit: usize, number: usize, at: usize) -> Result<(), Fault>
 }
 
 /// The number of columns of all these tables, cut at the largest number.
-fn column_count(tables: &[RawTable]) -> usize
+pub fn column_count(tables: &[RawTable]) -> usize
     ensures { result ≡ min (column_count tables.now) (2 ^ 64 - 1) }
 {
     let mut count: usize = 0;

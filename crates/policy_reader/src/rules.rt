@@ -1,4 +1,4 @@
-ghost use Rattle.std.specs.Prelude.{◌≡◌, ◌<◌, ◌≤◌, ◌^◌, Some, length, take, find, position, option_copied, IfOk};
+ghost use Rattle.std.specs.Prelude.{◌≡◌, ◌+◌, ◌<◌, ◌≤◌, ◌^◌, Some, length, take, find, position, option_copied, IfOk};
 ghost use Rattle.std.specs.List.{list_any};
 ghost use Rattle.base_laws.specs.Firsts.{first_at};
 ghost use Rattle.policy_reader.specs.Faults.{fault_of, is_table, is_column, column_count};
@@ -139,23 +139,25 @@ fn check_sealed_string(
     requires within { place < length sealed.now }
     ensures { fault_of result ≡ sealed_fault columns.now plain.now sealed.now at place }
 {
-    check_sealed_name(columns, plain, set, &sealed[place], at, plain.len() + place)
+    check_sealed_name(columns, plain, set, &sealed[place], at, place)
 }
 
 /// The name is that of a column, and none that `plain` lists.
 #[tactic(auto, using(crate::proofs::RuleLaws::columns))]
 fn check_sealed_name(
     columns: &[RawColumn],
-    _plain: &[Text],
+    plain: &[Text],
     set: AttrSet,
     name: &Text,
     at: usize,
-    item: usize,
+    place: usize,
 ) -> Result<(), Fault>
     requires few { length columns.now ≤ 64 }
-    requires listed { set.0 ≡ listed 0 columns.now _plain.now }
-    ensures { fault_of result ≡ sealed_string_fault columns.now _plain.now at item name.now }
+    requires listed { set.0 ≡ listed 0 columns.now plain.now }
+    requires fits { length plain.now + place < 2 ^ 64 }
+    ensures { fault_of result ≡ sealed_string_fault columns.now plain.now at place name.now }
 {
+    let item = plain.len() + place;
     let column = check_column_name(columns, name, at, item)?;
     if set.has(AttrId(column as u8)) {
         return Err(Fault::at(PolicyCode::Overlap, at, item));
