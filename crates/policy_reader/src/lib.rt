@@ -2,6 +2,7 @@
 //! order that docs/FORMATS.md, "Policy file", states. It stands on the plain types of `mq_base`.
 #![tactic(auto)]
 
+mod build;
 mod check;
 mod fault;
 mod grants;
