@@ -3,5 +3,7 @@ pub mod BuildLaws
 pub mod GrantLaws
 pub mod Places
 pub mod RuleLaws
+pub mod SchemaLaws
 pub mod ShapeLaws
 pub mod TreeLaws
+pub mod WithinLaws

@@ -47,6 +47,7 @@ struct Sets {
 }
 
 /// What each subject may see, where `any` is what the rule `any` says on each table.
+#[tactic(auto, using(crate::proofs::BuildLaws::sets))]
 fn all_sets(subjects: &[Text], tables: &[RawTable], rules: &[RawRule], any: &[Grant]) -> Sets
     requires few_subjects { length subjects.now ≤ 16 }
     requires few_columns { column_count tables.now ≤ 64 }
@@ -83,6 +84,7 @@ fn place_of(names: &[Text], name: &Text) -> Option<usize>
 }
 
 /// The tables, with their owners and the sets of their columns.
+#[tactic(auto, using(crate::proofs::BuildLaws::lists))]
 fn table_infos(alloc: Global, subjects: &[Text], tables: &[RawTable]) -> Result<Seq<TableInfo>, NoMemory>
     requires few_subjects { length subjects.now ≤ 16 }
     requires few_columns { column_count tables.now ≤ 64 }
@@ -103,6 +105,7 @@ fn table_infos(alloc: Global, subjects: &[Text], tables: &[RawTable]) -> Result<
 }
 
 /// The columns of all tables.
+#[tactic(auto, using(crate::proofs::BuildLaws::lists))]
 fn column_infos(alloc: Global, tables: &[RawTable]) -> Result<Seq<AttrInfo>, NoMemory>
     requires { length tables.now ≤ 8 }
     ensures { IfOk result (λ infos. infos ≡ columns_from 0 tables.now) }
