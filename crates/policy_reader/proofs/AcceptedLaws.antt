@@ -73,9 +73,9 @@ id_below : (subjects : List (List ℕ)) (subject : List ℕ) → is_one_of subje
 id_below subjects subject one = by_place (position (λ name. bytes_eq name subject) subjects) refl
     (sym (any-position (λ name. bytes_eq name subject) subjects) ∙ one)
   where
-  by_place : (o : Option ℕ) → position (λ name. bytes_eq name subject) subjects ≡ o → is_some o ≡ true → unwrap_or o 0 < length subjects
-  by_place None none some = cc
-  by_place (Some place) found some = (position-Some (λ name. bytes_eq name subject) subjects place subject found).0
+    by_place : (o : Option ℕ) → position (λ name. bytes_eq name subject) subjects ≡ o → is_some o ≡ true → unwrap_or o 0 < length subjects
+    by_place None none some = cc
+    by_place (Some place) found some = (position-Some (λ name. bytes_eq name subject) subjects place subject found).0
 
 -- a test that answers a fault where it fails has passed where there is none
 passed : (b : Bool) (code : PolicyCode) (at item : ℕ) → (if b then None else fault code at item) ≡ None → b ≡ true
@@ -86,12 +86,12 @@ owned : (subjects : List (List ℕ)) (tables : List RawTable) → first_at (owne
     → (k : ℕ) → IfSome (slice_get tables k) (λ table. is_one_of table.owner subjects ≡ true)
 owned subjects tables none k = by_table (slice_get tables k) refl
   where
-  by_table : (o : Option RawTable) → slice_get tables k ≡ o → IfSome o (λ table. is_one_of table.owner subjects ≡ true)
-  by_table None missing = tt
-  by_table (Some table) found =
-      let below : k < length tables = slice_get_within tables k table found in
-      let passes = first_at-none (owner_fault subjects tables) 0 (length tables) none k (omega arith) (omega arith) in
-      passed (is_one_of table.owner subjects) UnknownOwner k 0 (rw found at passes)
+    by_table : (o : Option RawTable) → slice_get tables k ≡ o → IfSome o (λ table. is_one_of table.owner subjects ≡ true)
+    by_table None missing = tt
+    by_table (Some table) found =
+        let below : k < length tables = slice_get_within tables k table found in
+        let passes = first_at-none (owner_fault subjects tables) 0 (length tables) none k (omega arith) (omega arith) in
+        passed (is_one_of table.owner subjects) UnknownOwner k 0 (rw found at passes)
 
 -- the policy that lists without a fault stand for
 pub accepted : (raw : RawPolicy) → first_fault raw ≡ None → IsAccepted (policy_value raw)
@@ -108,9 +108,11 @@ accepted raw none =
         few_tables = rw length-tables_from limits.1;
         few_attributes = rw columns limits.2;
         placed = λ a. rw length-tables_from (placed raw.tables a);
-        listed = listed raw.subjects raw.tables };
+        listed = listed raw.subjects raw.tables;
+      };
       owners_listed = owners_from raw.subjects 0 raw.tables (id_below raw.subjects) (owned raw.subjects raw.tables good.owners);
       plain_within = λ s a inside. rw columns (within-plain raw.tables raw.rules raw.subjects s a inside);
-      sealed_within = λ s a inside. rw columns (within-sealed raw.tables raw.rules raw.subjects s a inside) }
+      sealed_within = λ s a inside. rw columns (within-sealed raw.tables raw.rules raw.subjects s a inside);
+    }
 
 pub ruleset accepts = (accepted, few_subjects, few_tables, few_columns_of)

@@ -34,7 +34,7 @@ pub found_columns : (name : List ℕ) (tables : List RawTable) (table : RawTable
 found_columns name [] table found = cc
 found_columns name (first ∷ rest) table found =
     rw (sum_by-cons (λ (t : RawTable). length t.columns) first rest)
-        (one_of_all (is_table name first) table first rest name (found_columns name rest table) found)
+    (one_of_all (is_table name first) table first rest name (found_columns name rest table) found)
 
 pub found_few : (name : List ℕ) (tables : List RawTable) (table : RawTable) → find (is_table name) tables ≡ Some table
     → column_count tables ≤ 64 → length table.columns ≤ 64
@@ -47,10 +47,10 @@ any_from : {T : Type 0} (test : T → Bool) (place : ℕ) (items : List T)
 any_from test place [] = refl
 any_from test place (first ∷ rest) = by_first (test first) (any_from test (place + 1) rest)
   where
-  by_first : (b : Bool) → list_any test rest ≡ is_some (position_from test (place + 1) rest)
-      → (b || list_any test rest) ≡ is_some (cond b (Some place) (position_from test (place + 1) rest))
-  by_first true others = refl
-  by_first false others = others
+    by_first : (b : Bool) → list_any test rest ≡ is_some (position_from test (place + 1) rest)
+        → (b || list_any test rest) ≡ is_some (cond b (Some place) (position_from test (place + 1) rest))
+    by_first true others = refl
+    by_first false others = others
 
 -- some item passes a test where there is a first that does
 pub any-position : {T : Type 0} (test : T → Bool) (items : List T) → list_any test items ≡ is_some (position test items)
@@ -78,15 +78,16 @@ has-named : (columns : List RawColumn) (name other : List ℕ) (place : ℕ) →
     → has (named 0 columns other) place ≡ bytes_eq other name
 has-named columns name other place found = by_test (bytes_eq other name) (bytes_eq-Decides other name)
   where
-  by_place : (o : Option ℕ) → position (is_column other) columns ≡ o → other ≢ name → has (single 0 o) place ≡ false
-  by_place None none differ = has-empty place
-  by_place (Some k) at differ =
-      rw zero-add (has-single_other k place (other_place columns name other place k found at differ))
-  by_test : (b : Bool) → Decides b (other ≡ name) → has (named 0 columns other) place ≡ b
-  by_test true decides =
-      let same : other ≡ name = decides.0 refl in
-      rw (same, found, zero-add) (has-single_same place)
-  by_test false decides = by_place (position (is_column other) columns) refl (λ same. let h : false ≡ true = decides.1 same in cc)
+    by_place : (o : Option ℕ) → position (is_column other) columns ≡ o → other ≢ name → has (single 0 o) place ≡ false
+    by_place None none differ = has-empty place
+    by_place (Some k) at differ =
+        rw zero-add (has-single_other k place (other_place columns name other place k found at differ))
+
+    by_test : (b : Bool) → Decides b (other ≡ name) → has (named 0 columns other) place ≡ b
+    by_test true decides =
+        let same : other ≡ name = decides.0 refl in
+        rw (same, found, zero-add) (has-single_same place)
+    by_test false decides = by_place (position (is_column other) columns) refl (λ same. let h : false ≡ true = decides.1 same in cc)
 
 listed_to : (columns : List RawColumn) (plain : List (List ℕ)) (name : List ℕ) (place : ℕ) → position (is_column name) columns ≡ Some place
     → (n : ℕ) → n ≤ length plain
@@ -95,8 +96,14 @@ listed_to columns plain name place found zero short = has-empty place
 listed_to columns plain name place found (suc n) short =
     let below : n < length plain = omega arith in
     let more = list_any_more (λ other. bytes_eq other name) plain n name below in
-    rw (has-bit_or, slice_get-get_or plain n name below, has-named columns name (get_or plain n name) place found,
-        listed_to columns plain name place found n (omega arith), ← add-one, more) refl
+    rw (
+      has-bit_or,
+      slice_get-get_or plain n name below,
+      has-named columns name (get_or plain n name) place found,
+      listed_to columns plain name place found n (omega arith),
+      ← add-one,
+      more,
+    ) refl
 
 -- a string stands in `plain` where its column is one of the set of `plain`
 pub overlap : (columns : List RawColumn) (plain : List (List ℕ)) (name : List ℕ) (place : ℕ) → position (is_column name) columns ≡ Some place

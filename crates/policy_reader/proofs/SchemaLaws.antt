@@ -52,23 +52,24 @@ pub in_tables : (t : ℕ) (tables : List RawTable) (a : ℕ)
 in_tables t [] a = tt
 in_tables t (table ∷ others) a = by_place (here_or_later a (length table.columns)) (in_tables (suc t) others (a - length table.columns))
   where
-  wider : (o : Option ℕ) → IfSome o (λ found. (suc t ≤ found) × (found < suc t + length others))
-      → IfSome o (λ found. (t ≤ found) × (found < t + suc (length others)))
-  wider None within = tt
-  wider (Some found) within = let low : suc t ≤ found = within.0 in let high : found < suc t + length others = within.1 in (omega arith, omega arith)
-  by_place : (a < length table.columns) ⊎ (length table.columns ≤ a)
-      → IfSome (table_at (columns_from (suc t) others) (a - length table.columns)) (λ found. (suc t ≤ found) × (found < suc t + length others))
-      → IfSome (table_at (columns_from t (table ∷ others)) a) (λ found. (t ≤ found) × (found < t + suc (length others)))
-  by_place (inl below) others_within = rw (here t table.columns (columns_from (suc t) others) a below) (omega arith, omega arith)
-  by_place (inr past) others_within = rw (later t table.columns (columns_from (suc t) others) a past)
-      (wider (table_at (columns_from (suc t) others) (a - length table.columns)) others_within)
+    wider : (o : Option ℕ) → IfSome o (λ found. (suc t ≤ found) × (found < suc t + length others))
+        → IfSome o (λ found. (t ≤ found) × (found < t + suc (length others)))
+    wider None within = tt
+    wider (Some found) within = let low : suc t ≤ found = within.0 in let high : found < suc t + length others = within.1 in (omega arith, omega arith)
+
+    by_place : (a < length table.columns) ⊎ (length table.columns ≤ a)
+        → IfSome (table_at (columns_from (suc t) others) (a - length table.columns)) (λ found. (suc t ≤ found) × (found < suc t + length others))
+        → IfSome (table_at (columns_from t (table ∷ others)) a) (λ found. (t ≤ found) × (found < t + suc (length others)))
+    by_place (inl below) others_within = rw (here t table.columns (columns_from (suc t) others) a below) (omega arith, omega arith)
+    by_place (inr past) others_within = rw (later t table.columns (columns_from (suc t) others) a past)
+        (wider (table_at (columns_from (suc t) others) (a - length table.columns)) others_within)
 
 placed_from : (t : ℕ) (tables : List RawTable) (a found : ℕ) → table_at (columns_from t tables) a ≡ Some found → t ≤ found
 placed_from t tables a found there = (at (table_at (columns_from t tables) a) there (in_tables t tables a))
   where
-  at : (o : Option ℕ) → o ≡ Some found → IfSome o (λ found. (t ≤ found) × (found < t + length tables)) → t ≤ found
-  at None there within = cc
-  at (Some other) there within = let low : t ≤ other = within.0 in let same : other ≡ found = cc in omega arith
+    at : (o : Option ℕ) → o ≡ Some found → IfSome o (λ found. (t ≤ found) × (found < t + length tables)) → t ≤ found
+    at None there within = cc
+    at (Some other) there within = let low : t ≤ other = within.0 in let same : other ≡ found = cc in omega arith
 
 -- the set of a table has exactly the places of its columns
 abbrev IsListed : ℕ → ℕ → List RawTable → ℕ → TableInfo → Type 0
@@ -79,49 +80,56 @@ listed_here : (subjects : List (List ℕ)) (first t : ℕ) (table : RawTable) (o
     → IsListed first t (table ∷ others) 0 (table_info subjects first table)
 listed_here subjects first t table others a = (to, from)
   where
-  to : has (ids first (length table.columns)) a ≡ true
-      → (first ≤ a) × (table_at (columns_from t (table ∷ others)) (a - first) ≡ Some (t + 0))
-  to inside =
-      let both = ids-members first (length table.columns) a inside in
-      let low : first ≤ a = both.0 in
-      let high : a < first + length table.columns = both.1 in
-      let same : t + 0 ≡ t = omega arith in
-      (low, rw same (here t table.columns (columns_from (suc t) others) (a - first) (omega arith)))
-  by_place : first ≤ a → table_at (columns_from t (table ∷ others)) (a - first) ≡ Some (t + 0)
-      → (a - first < length table.columns) ⊎ (length table.columns ≤ a - first) → has (ids first (length table.columns)) a ≡ true
-  by_place low there (inl below) = ids-from first (length table.columns) a low (omega arith)
-  by_place low there (inr past) =
-      let there_later = sym (later t table.columns (columns_from (suc t) others) (a - first) past) ∙ there in
-      let high : suc t ≤ t + 0 = placed_from (suc t) others (a - first - length table.columns) (t + 0) there_later in
-      absurd (omega arith)
-  from : (first ≤ a) × (table_at (columns_from t (table ∷ others)) (a - first) ≡ Some (t + 0)) → has (ids first (length table.columns)) a ≡ true
-  from both = by_place both.0 both.1 (here_or_later (a - first) (length table.columns))
+    to : has (ids first (length table.columns)) a ≡ true
+        → (first ≤ a) × (table_at (columns_from t (table ∷ others)) (a - first) ≡ Some (t + 0))
+    to inside =
+        let both = ids-members first (length table.columns) a inside in
+        let low : first ≤ a = both.0 in
+        let high : a < first + length table.columns = both.1 in
+        let same : t + 0 ≡ t = omega arith in
+        (low, rw same (here t table.columns (columns_from (suc t) others) (a - first) (omega arith)))
+
+    by_place : first ≤ a → table_at (columns_from t (table ∷ others)) (a - first) ≡ Some (t + 0)
+        → (a - first < length table.columns) ⊎ (length table.columns ≤ a - first) → has (ids first (length table.columns)) a ≡ true
+    by_place low there (inl below) = ids-from first (length table.columns) a low (omega arith)
+    by_place low there (inr past) =
+        let there_later = sym (later t table.columns (columns_from (suc t) others) (a - first) past) ∙ there in
+        let high : suc t ≤ t + 0 = placed_from (suc t) others (a - first - length table.columns) (t + 0) there_later in
+        absurd (omega arith)
+
+    from : (first ≤ a) × (table_at (columns_from t (table ∷ others)) (a - first) ≡ Some (t + 0)) → has (ids first (length table.columns)) a ≡ true
+    from both = by_place both.0 both.1 (here_or_later (a - first) (length table.columns))
 
 listed_later : (first t : ℕ) (table : RawTable) (others : List RawTable) (k : ℕ) (info : TableInfo)
     → IsListed (first + length table.columns) (suc t) others k info → IsListed first t (table ∷ others) (suc k) info
 listed_later first t table others k info listed a = (to, from)
   where
-  same : t + suc k ≡ suc t + k
-  same = omega arith
-  rest : a - (first + length table.columns) ≡ a - first - length table.columns
-  rest = omega arith
-  to : has info.attrs.0 a ≡ true → (first ≤ a) × (table_at (columns_from t (table ∷ others)) (a - first) ≡ Some (t + suc k))
-  to inside =
-      let both = (listed a).0 inside in
-      let low : first + length table.columns ≤ a = both.0 in
-      (omega arith,
-      rw (same, later t table.columns (columns_from (suc t) others) (a - first) (omega arith), ← rest) both.1)
-  by_place : first ≤ a → table_at (columns_from t (table ∷ others)) (a - first) ≡ Some (t + suc k)
-      → (a - first < length table.columns) ⊎ (length table.columns ≤ a - first) → has info.attrs.0 a ≡ true
-  by_place low there (inl below) =
-      let t_there = sym (here t table.columns (columns_from (suc t) others) (a - first) below) ∙ there in
-      let wrong : t ≡ t + suc k = cc in
-      absurd (omega arith)
-  by_place low there (inr past) =
-      let there_later = sym (later t table.columns (columns_from (suc t) others) (a - first) past) ∙ there in
-      (listed a).1 (omega arith, rw (rest, ← same) there_later)
-  from : (first ≤ a) × (table_at (columns_from t (table ∷ others)) (a - first) ≡ Some (t + suc k)) → has info.attrs.0 a ≡ true
-  from both = by_place both.0 both.1 (here_or_later (a - first) (length table.columns))
+    same : t + suc k ≡ suc t + k
+    same = omega arith
+
+    rest : a - (first + length table.columns) ≡ a - first - length table.columns
+    rest = omega arith
+
+    to : has info.attrs.0 a ≡ true → (first ≤ a) × (table_at (columns_from t (table ∷ others)) (a - first) ≡ Some (t + suc k))
+    to inside =
+        let both = (listed a).0 inside in
+        let low : first + length table.columns ≤ a = both.0 in (
+          omega arith,
+          rw (same, later t table.columns (columns_from (suc t) others) (a - first) (omega arith), ← rest) both.1,
+        )
+
+    by_place : first ≤ a → table_at (columns_from t (table ∷ others)) (a - first) ≡ Some (t + suc k)
+        → (a - first < length table.columns) ⊎ (length table.columns ≤ a - first) → has info.attrs.0 a ≡ true
+    by_place low there (inl below) =
+        let t_there = sym (here t table.columns (columns_from (suc t) others) (a - first) below) ∙ there in
+        let wrong : t ≡ t + suc k = cc in
+        absurd (omega arith)
+    by_place low there (inr past) =
+        let there_later = sym (later t table.columns (columns_from (suc t) others) (a - first) past) ∙ there in
+        (listed a).1 (omega arith, rw (rest, ← same) there_later)
+
+    from : (first ≤ a) × (table_at (columns_from t (table ∷ others)) (a - first) ≡ Some (t + suc k)) → has info.attrs.0 a ≡ true
+    from both = by_place both.0 both.1 (here_or_later (a - first) (length table.columns))
 
 all_listed : (subjects : List (List ℕ)) (first t : ℕ) (tables : List RawTable) (k : ℕ)
     → IfSome (slice_get (tables_from subjects first tables) k) (IsListed first t tables k)
@@ -130,29 +138,29 @@ all_listed subjects first t (table ∷ others) zero = listed_here subjects first
 all_listed subjects first t (table ∷ others) (suc k) =
     pass (slice_get (tables_from subjects (first + length table.columns) others) k) (all_listed subjects (first + length table.columns) (suc t) others k)
   where
-  pass : (o : Option TableInfo) → IfSome o (IsListed (first + length table.columns) (suc t) others k)
-      → IfSome o (IsListed first t (table ∷ others) (suc k))
-  pass None listed = tt
-  pass (Some info) listed = listed_later first t table others k info listed
+    pass : (o : Option TableInfo) → IfSome o (IsListed (first + length table.columns) (suc t) others k)
+        → IfSome o (IsListed first t (table ∷ others) (suc k))
+    pass None listed = tt
+    pass (Some info) listed = listed_later first t table others k info listed
 
 pub listed : (subjects : List (List ℕ)) (tables : List RawTable) (t : ℕ) → IfSome (slice_get (tables_from subjects 0 tables) t)
     (λ info. (a : ℕ) → (has info.attrs.0 a ≡ true) ↔ (table_at (columns_from 0 tables) a ≡ Some t))
 listed subjects tables t = pass (slice_get (tables_from subjects 0 tables) t) (all_listed subjects 0 0 tables t)
   where
-  pass : (o : Option TableInfo) → IfSome o (IsListed 0 0 tables t)
-      → IfSome o (λ info. (a : ℕ) → (has info.attrs.0 a ≡ true) ↔ (table_at (columns_from 0 tables) a ≡ Some t))
-  pass None every = tt
-  pass (Some info) every = λ a.
-      let whole : a - 0 ≡ a = omega arith in
-      let same : 0 + t ≡ t = omega arith in
-      ((λ inside. rw (whole, same) at (((every a).0 inside).1)), (λ there. (every a).1 (omega arith, rw (whole, same) there)))
+    pass : (o : Option TableInfo) → IfSome o (IsListed 0 0 tables t)
+        → IfSome o (λ info. (a : ℕ) → (has info.attrs.0 a ≡ true) ↔ (table_at (columns_from 0 tables) a ≡ Some t))
+    pass None every = tt
+    pass (Some info) every = λ a.
+        let whole : a - 0 ≡ a = omega arith in
+        let same : 0 + t ≡ t = omega arith in
+        ((λ inside. rw (whole, same) at (((every a).0 inside).1)), (λ there. (every a).1 (omega arith, rw (whole, same) there)))
 
 pub placed : (tables : List RawTable) (a : ℕ) → IfSome (table_at (columns_from 0 tables) a) (λ t. t < length tables)
 placed tables a = pass (table_at (columns_from 0 tables) a) (in_tables 0 tables a)
   where
-  pass : (o : Option ℕ) → IfSome o (λ found. (0 ≤ found) × (found < 0 + length tables)) → IfSome o (λ t. t < length tables)
-  pass None within = tt
-  pass (Some t) within = let high : t < 0 + length tables = within.1 in omega arith
+    pass : (o : Option ℕ) → IfSome o (λ found. (0 ≤ found) × (found < 0 + length tables)) → IfSome o (λ t. t < length tables)
+    pass None within = tt
+    pass (Some t) within = let high : t < 0 + length tables = within.1 in omega arith
 
 -- each table's owner, where each is a subject
 pub owners_from : (subjects : List (List ℕ)) (first : ℕ) (tables : List RawTable)

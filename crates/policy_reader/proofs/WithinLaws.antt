@@ -30,10 +30,10 @@ within-empty total a inside = let h : has 0 a ≡ false = has-empty a in cc
 within-union : (total s t : ℕ) → Within total s → Within total t → Within total (bit_or s t)
 within-union total s t left right a inside = by_side (has s a) (has t a) refl refl (sym (has-bit_or s t a) ∙ inside)
   where
-  by_side : (b c : Bool) → has s a ≡ b → has t a ≡ c → (b || c) ≡ true → a < total
-  by_side true c in_left in_right either = left a in_left
-  by_side false true in_left in_right either = right a in_right
-  by_side false false in_left in_right either = cc
+    by_side : (b c : Bool) → has s a ≡ b → has t a ≡ c → (b || c) ≡ true → a < total
+    by_side true c in_left in_right either = left a in_left
+    by_side false true in_left in_right either = right a in_right
+    by_side false false in_left in_right either = cc
 
 same_or_other : (a i : ℕ) → (a ≡ i) ⊎ ((a < i) ⊎ (i < a))
 same_or_other a i = grind arith
@@ -41,12 +41,13 @@ same_or_other a i = grind arith
 only_itself : (i a : ℕ) → has (2 ^ i) a ≡ true → a ≡ i
 only_itself i a inside = by_order (same_or_other a i)
   where
-  other : a ≢ i → a ≡ i
-  other differ = let h : has (2 ^ i) a ≡ false = has-single_other i a differ in cc
-  by_order : (a ≡ i) ⊎ ((a < i) ⊎ (i < a)) → a ≡ i
-  by_order (inl same) = same
-  by_order (inr (inl below)) = other (λ same. omega arith)
-  by_order (inr (inr above)) = other (λ same. omega arith)
+    other : a ≢ i → a ≡ i
+    other differ = let h : has (2 ^ i) a ≡ false = has-single_other i a differ in cc
+
+    by_order : (a ≡ i) ⊎ ((a < i) ⊎ (i < a)) → a ≡ i
+    by_order (inl same) = same
+    by_order (inr (inl below)) = other (λ same. omega arith)
+    by_order (inr (inr above)) = other (λ same. omega arith)
 
 within-single : (total i : ℕ) → i < total → Within total (2 ^ i)
 within-single total i below a inside = let same : a ≡ i = only_itself i a inside in omega arith
@@ -60,15 +61,16 @@ pub ids-members : (first n a : ℕ) → has (ids first n) a ≡ true → (first 
 ids-members first zero a inside = let h : has 0 a ≡ false = has-empty a in cc
 ids-members first (suc n) a inside =
     by_side (ids-members first n a) (has (ids first n) a) (has (2 ^ (first + n)) a) refl refl
-        (sym (has-bit_or (ids first n) (2 ^ (first + n)) a) ∙ inside)
+    (sym (has-bit_or (ids first n) (2 ^ (first + n)) a) ∙ inside)
   where
-  earlier : (first ≤ a) × (a < first + n) → (first ≤ a) × (a < first + suc n)
-  earlier found = let low : first ≤ a = found.0 in let high : a < first + n = found.1 in (omega arith, omega arith)
-  by_side : (has (ids first n) a ≡ true → (first ≤ a) × (a < first + n)) → (b c : Bool) → has (ids first n) a ≡ b → has (2 ^ (first + n)) a ≡ c
-      → (b || c) ≡ true → (first ≤ a) × (a < first + suc n)
-  by_side before true c in_left in_right either = earlier (before in_left)
-  by_side before false true in_left in_right either = let same : a ≡ first + n = only_itself (first + n) a in_right in (omega arith, omega arith)
-  by_side before false false in_left in_right either = cc
+    earlier : (first ≤ a) × (a < first + n) → (first ≤ a) × (a < first + suc n)
+    earlier found = let low : first ≤ a = found.0 in let high : a < first + n = found.1 in (omega arith, omega arith)
+
+    by_side : (has (ids first n) a ≡ true → (first ≤ a) × (a < first + n)) → (b c : Bool) → has (ids first n) a ≡ b → has (2 ^ (first + n)) a ≡ c
+        → (b || c) ≡ true → (first ≤ a) × (a < first + suc n)
+    by_side before true c in_left in_right either = earlier (before in_left)
+    by_side before false true in_left in_right either = let same : a ≡ first + n = only_itself (first + n) a in_right in (omega arith, omega arith)
+    by_side before false false in_left in_right either = cc
 
 pub ids-from : (first n a : ℕ) → first ≤ a → a < first + n → has (ids first n) a ≡ true
 ids-from first n a low high =
@@ -82,19 +84,19 @@ within-named : (total first : ℕ) (columns : List RawColumn) (name : List ℕ) 
     → Within total (named first columns name)
 within-named total first columns name fits = by_place (position (is_column name) columns) refl
   where
-  by_place : (o : Option ℕ) → position (is_column name) columns ≡ o → Within total (single first o)
-  by_place None none = within-empty total
-  by_place (Some place) found =
-      let below : place < length columns = column_below columns name place found in
-      within-single total (first + place) (omega arith)
+    by_place : (o : Option ℕ) → position (is_column name) columns ≡ o → Within total (single first o)
+    by_place None none = within-empty total
+    by_place (Some place) found =
+        let below : place < length columns = column_below columns name place found in
+        within-single total (first + place) (omega arith)
 
 within-listed : (total first : ℕ) (columns : List RawColumn) (names : List (List ℕ)) → first + length columns ≤ total
     → Within total (listed first columns names)
 within-listed total first columns names fits = within-union_to total (named_at first columns names) (λ k. by_string (slice_get names k)) (length names)
   where
-  by_string : (o : Option (List ℕ)) → Within total (option_map_or (named first columns) o 0)
-  by_string None = within-empty total
-  by_string (Some name) = within-named total first columns name fits
+    by_string : (o : Option (List ℕ)) → Within total (option_map_or (named first columns) o 0)
+    by_string None = within-empty total
+    by_string (Some name) = within-named total first columns name fits
 
 -- both sets of a grant have only members below the total
 abbrev GrantWithin : ℕ → Grant → Type 0
@@ -113,24 +115,24 @@ within-table : (total : ℕ) (rules : List RawRule) (subject : List ℕ) (first 
     → GrantWithin total (table_grant rules subject first table)
 within-table total rules subject first table fits = by_owner (bytes_eq subject table.owner)
   where
-  by_owner : (b : Bool) → GrantWithin total (if b then everything first table
-      else said first table (option_or (rule_for table subject rules) (rule_for table any_subject rules)))
-  by_owner true = (within-ids total first (length table.columns) fits, within-empty total)
-  by_owner false = within-said total first table fits (option_or (rule_for table subject rules) (rule_for table any_subject rules))
+    by_owner : (b : Bool) → GrantWithin total (if b then everything first table
+        else said first table (option_or (rule_for table subject rules) (rule_for table any_subject rules)))
+    by_owner true = (within-ids total first (length table.columns) fits, within-empty total)
+    by_owner false = within-said total first table fits (option_or (rule_for table subject rules) (rule_for table any_subject rules))
 
 within-grant : (tables : List RawTable) (rules : List RawRule) (subject : List ℕ) (t : ℕ)
     → GrantWithin (column_count tables) (grant tables rules subject t)
 within-grant tables rules subject t = by_table (slice_get tables t) refl
   where
-  by_table : (o : Option RawTable) → slice_get tables t ≡ o
-      → GrantWithin (column_count tables) (option_map_or (table_grant rules subject (first_id tables t)) o nothing)
-  by_table None none = within-nothing (column_count tables)
-  by_table (Some table) found =
-      let below : t < length tables = slice_get_within tables t table found in
-      let same : get_or tables t table ≡ table = get_or_from_slice_get tables t table table found in
-      let long : length (get_or tables t table).columns ≡ length table.columns = ap (λ (x : RawTable). length x.columns) same in
-      let fits : first_id tables t + length (get_or tables t table).columns ≤ column_count tables = first_id-fits tables t table below in
-      within-table (column_count tables) rules subject (first_id tables t) table (omega arith)
+    by_table : (o : Option RawTable) → slice_get tables t ≡ o
+        → GrantWithin (column_count tables) (option_map_or (table_grant rules subject (first_id tables t)) o nothing)
+    by_table None none = within-nothing (column_count tables)
+    by_table (Some table) found =
+        let below : t < length tables = slice_get_within tables t table found in
+        let same : get_or tables t table ≡ table = get_or_from_slice_get tables t table table found in
+        let long : length (get_or tables t table).columns ≡ length table.columns = ap (λ (x : RawTable). length x.columns) same in
+        let fits : first_id tables t + length (get_or tables t table).columns ≤ column_count tables = first_id-fits tables t table below in
+        within-table (column_count tables) rules subject (first_id tables t) table (omega arith)
 
 within-all_plain : (tables : List RawTable) (rules : List RawRule) (subject : List ℕ) → Within (column_count tables) (all_plain tables rules subject)
 within-all_plain tables rules subject =

@@ -67,7 +67,7 @@ table_fault tables at = test_at (λ (table : RawTable). name_fault (is_name tabl
 abbrev pub column_fault : List RawTable → List RawColumn → ℕ → ℕ → Option Fault
 column_fault earlier columns at place = test_at
     (λ (column : RawColumn). name_fault (is_name column.name)
-        (have_column column.name earlier || has_column column.name (take place columns)) at (place + 1))
+    (have_column column.name earlier || has_column column.name (take place columns)) at (place + 1))
     columns place
 
 -- the names of a table's columns

@@ -36,7 +36,10 @@ subject_id subjects subject = record { 0 = unwrap_or (position (λ name. bytes_e
 -- a table whose first column has the id `first`: its name, its owner's id, and the set of its columns' ids
 abbrev pub table_info : List (List ℕ) → ℕ → RawTable → TableInfo
 table_info subjects first table = record {
-  name = table.name; owner = subject_id subjects table.owner; attrs = set_of (ids first (length table.columns)) }
+  name = table.name;
+  owner = subject_id subjects table.owner;
+  attrs = set_of (ids first (length table.columns));
+}
 
 -- the tables, in the order of the file; the first column of the first has the id `first`
 abbrev pub tables_from : List (List ℕ) → ℕ → List RawTable → List TableInfo
@@ -64,7 +67,8 @@ policy_value raw = record {
   subjects = raw.subjects;
   user = subject_id raw.subjects raw.user;
   plain = sixteen (all_plain raw.tables raw.rules) raw.subjects;
-  sealed = sixteen (all_sealed raw.tables raw.rules) raw.subjects }
+  sealed = sixteen (all_sealed raw.tables raw.rules) raw.subjects;
+}
 
 -- a refusal without a place
 abbrev pub syntax_fault : Fault

@@ -44,7 +44,7 @@ sealed_fault columns plain sealed at place = test_at (sealed_string_fault column
 abbrev pub strings_fault : List RawColumn → List (List ℕ) → List (List ℕ) → ℕ → Option Fault
 strings_fault columns plain sealed at =
     or_else (first_at (plain_fault columns plain at) 0 (length plain))
-        (first_at (sealed_fault columns plain sealed at) 0 (length sealed))
+    (first_at (sealed_fault columns plain sealed at) 0 (length sealed))
 
 -- a rule for a table that the policy has
 abbrev pub rule_fault_for : List (List ℕ) → List RawRule → ℕ → RawRule → RawTable → Option Fault
@@ -68,7 +68,7 @@ rule_fault subjects tables rules at =
 abbrev pub first_fault : RawPolicy → Option Fault
 first_fault raw =
     or_else (limit_fault raw.subjects raw.tables)
-        (or_else (names_fault raw.subjects raw.tables)
-        (or_else (first_at (owner_fault raw.subjects raw.tables) 0 (length raw.tables))
-        (or_else (user_fault raw.subjects raw.user)
-        (first_at (rule_fault raw.subjects raw.tables raw.rules) 0 (length raw.rules)))))
+    (or_else (names_fault raw.subjects raw.tables)
+    (or_else (first_at (owner_fault raw.subjects raw.tables) 0 (length raw.tables))
+    (or_else (user_fault raw.subjects raw.user)
+    (first_at (rule_fault raw.subjects raw.tables raw.rules) 0 (length raw.rules)))))

@@ -14,7 +14,6 @@ use Rattle.policy_reader.specs.declared.read_error.ReadError.TheVariants.{Malfor
 use Rattle.policy_reader.specs.Names.{is_one_of}
 
 infixl 10 ◌>>=◌
-
 -- what follows from a value, where there is one
 abbrev ◌>>=◌ : {A B : Type 0} → Option A → (A → Option B) → Option B
 o >>= f = option_and_then f o

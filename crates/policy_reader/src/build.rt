@@ -85,7 +85,11 @@ fn place_of(names: &[Text], name: &Text) -> Option<usize>
 
 /// The tables, with their owners and the sets of their columns.
 #[tactic(auto, using(crate::proofs::BuildLaws::lists))]
-fn table_infos(alloc: Global, subjects: &[Text], tables: &[RawTable]) -> Result<Seq<TableInfo>, NoMemory>
+fn table_infos(
+    alloc: Global,
+    subjects: &[Text],
+    tables: &[RawTable],
+) -> Result<Seq<TableInfo>, NoMemory>
     requires few_subjects { length subjects.now ≤ 16 }
     requires few_columns { column_count tables.now ≤ 64 }
     ensures { IfOk result (λ infos. infos ≡ tables_from subjects.now 0 tables.now) }
@@ -112,7 +116,12 @@ fn column_infos(alloc: Global, tables: &[RawTable]) -> Result<Seq<AttrInfo>, NoM
 {
     let mut infos = Seq::new(alloc);
     for t in 0..tables.len() {
-        push_columns(alloc, &mut infos, TableId(t as u8), tables[t].columns.as_slice())?;
+        push_columns(
+            alloc,
+            &mut infos,
+            TableId(t as u8),
+            tables[t].columns.as_slice(),
+        )?;
     }
     Ok(infos)
 }

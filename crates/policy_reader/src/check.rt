@@ -62,7 +62,12 @@ fn check_subject(subjects: &[Text], at: usize) -> Result<(), Fault>
     ensures { fault_of result ≡ subject_fault subjects.now at }
 {
     let name = &subjects[at];
-    check_name(is_subject_name(name), is_one_of(name, &subjects[..at]), at, 0)
+    check_name(
+        is_subject_name(name),
+        is_one_of(name, &subjects[..at]),
+        at,
+        0,
+    )
 }
 
 #[tactic(auto, using(crate::proofs::Places::places))]
@@ -101,7 +106,12 @@ fn check_columns(earlier: &[RawTable], columns: &[RawColumn], at: usize) -> Resu
     Ok(())
 }
 
-fn check_column(earlier: &[RawTable], columns: &[RawColumn], at: usize, place: usize) -> Result<(), Fault>
+fn check_column(
+    earlier: &[RawTable],
+    columns: &[RawColumn],
+    at: usize,
+    place: usize,
+) -> Result<(), Fault>
     requires { place < length columns.now }
     ensures { fault_of result ≡ column_fault earlier.now columns.now at place }
 {
@@ -141,7 +151,9 @@ pub fn has_column(columns: &[RawColumn], name: &Text) -> bool
 fn have_column(tables: &[RawTable], name: &Text) -> bool
     ensures { result ≡ have_column name.now tables.now }
 {
-    tables.iter().any(|table| has_column(table.columns.as_slice(), name))
+    tables
+        .iter()
+        .any(|table| has_column(table.columns.as_slice(), name))
 }
 
 /// Each table's owner is a subject.

@@ -63,7 +63,11 @@ fn grant_at(tables: &[RawTable], rules: &[RawRule], any: Grant, subject: &Text, 
 }
 
 /// What the rule `any` says on each table.
-pub fn any_grants(alloc: Global, tables: &[RawTable], rules: &[RawRule]) -> Result<Vec<Grant>, NoMemory>
+pub fn any_grants(
+    alloc: Global,
+    tables: &[RawTable],
+    rules: &[RawRule],
+) -> Result<Vec<Grant>, NoMemory>
     requires { column_count tables.now ≤ 64 }
     ensures filled { IfOk result (λ grants. length grants.items ≡ length tables.now) }
     ensures each { IfOk result (λ grants. (t : ℕ) → t < length tables.now
@@ -108,7 +112,13 @@ fn any_said(rules: &[RawRule], first: usize, table: &RawTable) -> Grant
 }
 
 /// The grant to a subject on a table, where `any` is what the rule `any` says on it.
-fn table_grant(rules: &[RawRule], subject: &Text, first: usize, table: &RawTable, any: Grant) -> Grant
+fn table_grant(
+    rules: &[RawRule],
+    subject: &Text,
+    first: usize,
+    table: &RawTable,
+    any: Grant,
+) -> Grant
     requires few { first + length table.now.columns ≤ 64 }
     requires any { any ≡ said first table.now (rule_for table.now any_subject rules.now) }
     ensures { result ≡ table_grant rules.now subject.now first table.now }
@@ -126,9 +136,7 @@ fn table_grant(rules: &[RawRule], subject: &Text, first: usize, table: &RawTable
 fn find_rule<'a>(rules: &'a [RawRule], table: &[u8], subject: &[u8]) -> Option<&'a RawRule>
     ensures { option_copied result ≡ find (is_rule table.now subject.now) rules.now }
 {
-    rules
-        .iter()
-        .find(|rule| rule.table.as_bytes() == table && rule.subject.as_bytes() == subject)
+    rules.iter().find(|rule| rule.table.as_bytes() == table && rule.subject.as_bytes() == subject)
 }
 
 /// Everything of a table plain.

@@ -18,3 +18,6 @@ mod shape;
 pub use policy::Policy;
 pub use read::read_policy;
 pub use refusal::{PolicyCode, PolicyNo};
+
+#[cfg(test)]
+mod tests;

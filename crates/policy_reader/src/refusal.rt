@@ -62,7 +62,11 @@ impl PolicyCode {
 pub enum PolicyNo {
     /// The file is refused. `at` is the index of the subject, table or rule, and `item` the place in it, as
     /// docs/FORMATS.md, "Policy file", says for each code.
-    Refused { code: PolicyCode, at: u64, item: u64 },
+    Refused {
+        code: PolicyCode,
+        at: u64,
+        item: u64,
+    },
     /// The allocator refused a request for memory.
     NoMemory,
 }
@@ -71,7 +75,11 @@ impl fmt::Display for PolicyNo {
     fn fmt<W: fmt::Write>(&self, f: &mut fmt::Formatter<W>) -> fmt::Result {
         match self {
             PolicyNo::Refused { code, at, item } => {
-                write!(f, "policy refused: code {} at {at} item {item}", code.number())
+                write!(
+                    f,
+                    "policy refused: code {} at {at} item {item}",
+                    code.number()
+                )
             }
             PolicyNo::NoMemory => f.write_str("no memory"),
         }

@@ -24,7 +24,12 @@ pub fn check_rules(subjects: &[Text], tables: &[RawTable], rules: &[RawRule]) ->
 }
 
 #[tactic(auto, using(crate::proofs::RuleLaws::found))]
-fn check_rule(subjects: &[Text], tables: &[RawTable], rules: &[RawRule], at: usize) -> Result<(), Fault>
+fn check_rule(
+    subjects: &[Text],
+    tables: &[RawTable],
+    rules: &[RawRule],
+    at: usize,
+) -> Result<(), Fault>
     requires few { column_count tables.now ≤ 64 }
     requires within { at < length rules.now }
     ensures { fault_of result ≡ rule_fault subjects.now tables.now rules.now at }
@@ -56,10 +61,20 @@ fn check_rule_for(
     if has_rule(earlier, &rule.table, &rule.subject) {
         return Err(Fault::at(PolicyCode::RepeatedRule, at, 0));
     }
-    check_strings(table.columns.as_slice(), rule.plain.as_slice(), rule.sealed.as_slice(), at)
+    check_strings(
+        table.columns.as_slice(),
+        rule.plain.as_slice(),
+        rule.sealed.as_slice(),
+        at,
+    )
 }
 
-fn check_strings(columns: &[RawColumn], plain: &[Text], sealed: &[Text], at: usize) -> Result<(), Fault>
+fn check_strings(
+    columns: &[RawColumn],
+    plain: &[Text],
+    sealed: &[Text],
+    at: usize,
+) -> Result<(), Fault>
     requires { length columns.now ≤ 64 }
     ensures { fault_of result ≡ strings_fault columns.now plain.now sealed.now at }
 {
@@ -84,7 +99,12 @@ fn check_plain(columns: &[RawColumn], plain: &[Text], at: usize) -> Result<AttrS
 
 /// The string of `plain` at a place is a column: that column's place.
 #[tactic(auto, using(crate::proofs::RuleLaws::columns))]
-fn check_plain_string(columns: &[RawColumn], plain: &[Text], at: usize, place: usize) -> Result<usize, Fault>
+fn check_plain_string(
+    columns: &[RawColumn],
+    plain: &[Text],
+    at: usize,
+    place: usize,
+) -> Result<usize, Fault>
     requires { place < length plain.now }
     ensures fault { fault_of result ≡ plain_fault columns.now plain.now at place }
     ensures below { IfOk result (λ column. column < length columns.now) }
@@ -95,7 +115,12 @@ fn check_plain_string(columns: &[RawColumn], plain: &[Text], at: usize, place: u
 
 /// The name is that of a column: that column's place.
 #[tactic(auto, using(crate::proofs::RuleLaws::columns))]
-fn check_column_name(columns: &[RawColumn], name: &Text, at: usize, item: usize) -> Result<usize, Fault>
+fn check_column_name(
+    columns: &[RawColumn],
+    name: &Text,
+    at: usize,
+    item: usize,
+) -> Result<usize, Fault>
     ensures fault { fault_of result ≡ unknown_fault columns.now at item name.now }
     ensures place { IfOk result (λ column. position (is_column name.now) columns.now ≡ Some column) }
     ensures below { IfOk result (λ column. column < length columns.now) }
@@ -176,7 +201,9 @@ fn may_speak_of(subjects: &[Text], subject: &Text) -> bool
 fn has_rule(rules: &[RawRule], table: &Text, subject: &Text) -> bool
     ensures { result ≡ list_any (is_rule table.now subject.now) rules.now }
 {
-    rules.iter().any(|rule| rule.table == *table && rule.subject == *subject)
+    rules
+        .iter()
+        .any(|rule| rule.table == *table && rule.subject == *subject)
 }
 
 /// The table with this name.

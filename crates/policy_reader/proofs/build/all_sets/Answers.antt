@@ -12,4 +12,5 @@ loop-s-preserved c =
           c.all_granted-granted.ensures.plain;
       sealed = sixteen_to-more (all_sealed c.args.tables.now c.args.rules.now) c.args.subjects.now c.loop-s.s c.index-subjects-s.result
           c.loop-s.sealed c.all_granted-granted.result.sealed c.loop-s-test.true small c.loop-s.invariant.sealed c.index-subjects-s.is
-          c.all_granted-granted.ensures.sealed }
+          c.all_granted-granted.ensures.sealed;
+    }

@@ -6,4 +6,5 @@ use Rattle.policy_reader.proofs.grants.all_granted.Given as goal
 abbrev pub invariant-loop-t : goal.invariant-loop-t
 invariant-loop-t l = record {
   plain : l.all.plain.0 ≡ union_to (λ t. (grant l.tables l.rules l.subject t).plain.0) l.t;
-  sealed : l.all.sealed.0 ≡ union_to (λ t. (grant l.tables l.rules l.subject t).sealed.0) l.t }
+  sealed : l.all.sealed.0 ≡ union_to (λ t. (grant l.tables l.rules l.subject t).sealed.0) l.t;
+}
