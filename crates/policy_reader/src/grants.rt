@@ -127,7 +127,7 @@ fn table_grant(
         return everything(first, table);
     }
     match find_rule(rules, table.name.as_bytes(), subject.as_bytes()) {
-        Some(rule) => rule_grant(first, table, rule),
+        Some(own) => rule_grant(first, table, own),
         None => any,
     }
 }

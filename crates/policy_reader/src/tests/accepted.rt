@@ -43,6 +43,7 @@ fn grants(rt: HostRuntime) -> Result<(), Fail> {
         (ANY, 1, 1, 0),
         (ANY, 2, 2 + 4, 1),
     ] {
+        assert!(rt; subject < 16);
         let policy = read_policy(alloc, text.as_bytes())?;
         assert_eq!(rt; policy.plain(SubjectId(subject)).0, plain, "{subject}");
         assert_eq!(rt; policy.sealed(SubjectId(subject)).0, sealed, "{subject}");
