@@ -1,0 +1,118 @@
+-- What holds of lists without a fault, and of the policy that they stand for.
+use Rattle.std.proofs.Common.{◌≡◌, ℕ, ◌+◌, ◌<◌, ◌≤◌, List, length, Bool, true, false, Option, Some, None, is_some, bytes_eq, refl, sym, ◌∙◌, ap, arith}
+use Rattle.std.specs.Prelude.{nat_lt, slice_get, position, unwrap_or, IfSome, if◌then◌else◌}
+use Rattle.std.proofs.lemmas.Bool.Decides.{nat_tests}
+use Rattle.std.proofs.lemmas.List.Quantifiers.{position-Some}
+use Rattle.std.proofs.lemmas.Option.{slice_get_within}
+use Rattle.base_laws.specs.Firsts.{or_else, first_at}
+use Rattle.base_laws.proofs.FirstLaws.{first_at-none}
+use Rattle.policy_reader.specs.declared.fault.Fault.{Fault}
+use Rattle.policy_reader.specs.declared.raw.RawTable.{RawTable}
+use Rattle.policy_reader.specs.declared.raw.RawPolicy.{RawPolicy}
+use Rattle.policy_reader.specs.declared.refusal.PolicyCode.{PolicyCode}
+use Rattle.policy_reader.specs.declared.refusal.PolicyCode.TheVariants.{UnknownOwner, UnknownSubject}
+use Rattle.policy_reader.specs.Names.{is_one_of}
+use Rattle.policy_reader.specs.Faults.{fault, over, limit_fault, names_fault, owner_fault, user_fault, column_count}
+use Rattle.policy_reader.specs.Rules.{rule_fault, first_fault}
+use Rattle.policy_reader.specs.Outcome.{subject_id, policy_value}
+use Rattle.policy_reader.specs.Accepted.{IsAccepted}
+use Rattle.policy_reader.proofs.RuleLaws.{any-position}
+use Rattle.policy_reader.proofs.WithinLaws.{within-plain, within-sealed}
+use Rattle.policy_reader.proofs.SchemaLaws.{length-tables_from, length-columns_from, placed, listed, owners_from}
+
+-- where two tests in a row find nothing, neither does
+both_none : {F : Type 0} (one rest : Option F) → or_else one rest ≡ None → (one ≡ None) × (rest ≡ None)
+both_none None rest none = (refl, none)
+both_none (Some fault) rest none = cc
+
+not_over : (limit number at : ℕ) → over limit number at ≡ None → number ≤ limit
+not_over limit number at none = grind (arith, nat_tests)
+
+-- where the limits have no fault, they are kept
+kept : (subjects : List (List ℕ)) (tables : List RawTable) → limit_fault subjects tables ≡ None
+    → (length subjects ≤ 16) × (length tables ≤ 8) × (column_count tables ≤ 64)
+kept subjects tables none =
+    let first = both_none (over 16 (length subjects) 0) (or_else (over 8 (length tables) 1) (over 64 (column_count tables) 2)) none in
+    let second = both_none (over 8 (length tables) 1) (over 64 (column_count tables) 2) first.1 in
+    (not_over 16 (length subjects) 0 first.0, not_over 8 (length tables) 1 second.0, not_over 64 (column_count tables) 2 second.1)
+
+pub few_columns : (subjects : List (List ℕ)) (tables : List RawTable) → limit_fault subjects tables ≡ None → column_count tables ≤ 64
+few_columns subjects tables none = (kept subjects tables none).2
+
+pub ruleset limits = (few_columns)
+
+-- what it means that a policy's lists have no fault, as far as the policy's value needs it
+pub record IsSound (raw : RawPolicy) : Type 0 where
+  pub limits : limit_fault raw.subjects raw.tables ≡ None
+  pub owners : first_at (owner_fault raw.subjects raw.tables) 0 (length raw.tables) ≡ None
+  pub user : user_fault raw.subjects raw.user ≡ None
+
+sound : (raw : RawPolicy) → first_fault raw ≡ None → IsSound raw
+sound raw none =
+    let owners = first_at (owner_fault raw.subjects raw.tables) 0 (length raw.tables) in
+    let user = user_fault raw.subjects raw.user in
+    let rules = first_at (rule_fault raw.subjects raw.tables raw.rules) 0 (length raw.rules) in
+    let one = both_none (limit_fault raw.subjects raw.tables) (or_else (names_fault raw.subjects raw.tables) (or_else owners (or_else user rules))) none in
+    let two = both_none (names_fault raw.subjects raw.tables) (or_else owners (or_else user rules)) one.1 in
+    let three = both_none owners (or_else user rules) two.1 in
+    let four = both_none user rules three.1 in
+    record { limits = one.0; owners = three.0; user = four.0 }
+
+pub few_subjects : (raw : RawPolicy) → first_fault raw ≡ None → length raw.subjects ≤ 16
+few_subjects raw none = (kept raw.subjects raw.tables (sound raw none).limits).0
+
+pub few_tables : (raw : RawPolicy) → first_fault raw ≡ None → length raw.tables ≤ 8
+few_tables raw none = (kept raw.subjects raw.tables (sound raw none).limits).1
+
+pub few_columns_of : (raw : RawPolicy) → first_fault raw ≡ None → column_count raw.tables ≤ 64
+few_columns_of raw none = (kept raw.subjects raw.tables (sound raw none).limits).2
+
+-- a name that is listed has a place
+id_below : (subjects : List (List ℕ)) (subject : List ℕ) → is_one_of subject subjects ≡ true
+    → (subject_id subjects subject).0 < length subjects
+id_below subjects subject one = by_place (position (λ name. bytes_eq name subject) subjects) refl
+    (sym (any-position (λ name. bytes_eq name subject) subjects) ∙ one)
+  where
+    by_place : (o : Option ℕ) → position (λ name. bytes_eq name subject) subjects ≡ o → is_some o ≡ true → unwrap_or o 0 < length subjects
+    by_place None none some = cc
+    by_place (Some place) found some = (position-Some (λ name. bytes_eq name subject) subjects place subject found).0
+
+-- a test that answers a fault where it fails has passed where there is none
+passed : (b : Bool) (code : PolicyCode) (at item : ℕ) → (if b then None else fault code at item) ≡ None → b ≡ true
+passed true code at item none = refl
+passed false code at item none = cc
+
+owned : (subjects : List (List ℕ)) (tables : List RawTable) → first_at (owner_fault subjects tables) 0 (length tables) ≡ None
+    → (k : ℕ) → IfSome (slice_get tables k) (λ table. is_one_of table.owner subjects ≡ true)
+owned subjects tables none k = by_table (slice_get tables k) refl
+  where
+    by_table : (o : Option RawTable) → slice_get tables k ≡ o → IfSome o (λ table. is_one_of table.owner subjects ≡ true)
+    by_table None missing = tt
+    by_table (Some table) found =
+        let below : k < length tables = slice_get_within tables k table found in
+        let passes = first_at-none (owner_fault subjects tables) 0 (length tables) none k (omega arith) (omega arith) in
+        passed (is_one_of table.owner subjects) UnknownOwner k 0 (rw found at passes)
+
+-- the policy that lists without a fault stand for
+pub accepted : (raw : RawPolicy) → first_fault raw ≡ None → IsAccepted (policy_value raw)
+accepted raw none =
+    let good = sound raw none in
+    let limits = kept raw.subjects raw.tables good.limits in
+    let user = id_below raw.subjects raw.user (passed (is_one_of raw.user raw.subjects) UnknownSubject 0 1 good.user) in
+    let columns = length-columns_from 0 raw.tables in
+    record {
+      some_subject = omega arith;
+      few_subjects = limits.0;
+      user_listed = user;
+      schema = record {
+        few_tables = rw length-tables_from limits.1;
+        few_attributes = rw columns limits.2;
+        placed = λ a. rw length-tables_from (placed raw.tables a);
+        listed = listed raw.subjects raw.tables;
+      };
+      owners_listed = owners_from raw.subjects 0 raw.tables (id_below raw.subjects) (owned raw.subjects raw.tables good.owners);
+      plain_within = λ s a inside. rw columns (within-plain raw.tables raw.rules raw.subjects s a inside);
+      sealed_within = λ s a inside. rw columns (within-sealed raw.tables raw.rules raw.subjects s a inside);
+    }
+
+pub ruleset accepts = (accepted, few_subjects, few_tables, few_columns_of)

@@ -1,0 +1,9 @@
+pub mod AcceptedLaws
+pub mod BuildLaws
+pub mod GrantLaws
+pub mod Places
+pub mod RuleLaws
+pub mod SchemaLaws
+pub mod ShapeLaws
+pub mod TreeLaws
+pub mod WithinLaws

@@ -1,0 +1,39 @@
+//! The refusals of policy files with their places, and the grants of accepted ones. The expected values are
+//! worked out by hand from docs/FORMATS.md, "Policy file".
+use crate::{PolicyNo, read_policy};
+use std::alloc::{AllocError, Global};
+
+mod accepted;
+mod faults;
+mod limits;
+mod shapes;
+
+/// The code, `at` and `item` of a file's refusal, and zeros where it is accepted.
+fn refusal(alloc: Global, bytes: &[u8]) -> (u16, u64, u64) {
+    match read_policy(alloc, bytes) {
+        Ok(_) => (0, 0, 0),
+        Err(PolicyNo::Refused { code, at, item }) => (code.number(), at, item),
+        Err(PolicyNo::NoMemory) => (99, 0, 0),
+    }
+}
+
+/// A policy of two subjects and one table, without rules.
+const USER: &str = "U";
+
+const SUBJECTS: &str = "'O', 'U'";
+
+const TABLES: &str =
+    "{name = 'r', owner = 'O', columns = [{name = 'a', type = 'INT'}, {name = 'b', type = 'TEXT'}]}";
+
+/// A policy file of these parts.
+fn file(
+    alloc: Global,
+    user: &str,
+    subjects: &str,
+    tables: &str,
+    rules: &str,
+) -> Result<String, AllocError> {
+    format!(in alloc;
+        "version = 1\nuser = '{user}'\nsubjects = [{subjects}]\ntable = [{tables}]\nrule = [{rules}]\n"
+    )
+}
