@@ -17,6 +17,7 @@ use Rattle.policy_reader.specs.Rules.{rule_fault, first_fault}
 use Rattle.policy_reader.specs.Outcome.{subject_id, policy_value}
 use Rattle.policy_reader.specs.Accepted.{IsAccepted}
 use Rattle.policy_reader.proofs.RuleLaws.{any-position}
+use Rattle.policy_reader.proofs.TextLaws.{names_are_text}
 use Rattle.policy_reader.proofs.WithinLaws.{within-plain, within-sealed}
 use Rattle.policy_reader.proofs.SchemaLaws.{length-tables_from, length-columns_from, placed, listed, owners_from}
 
@@ -44,6 +45,7 @@ pub ruleset limits = (few_columns)
 -- what it means that a policy's lists have no fault, as far as the policy's value needs it
 pub record IsSound (raw : RawPolicy) : Type 0 where
   pub limits : limit_fault raw.subjects raw.tables ≡ None
+  pub names : names_fault raw.subjects raw.tables ≡ None
   pub owners : first_at (owner_fault raw.subjects raw.tables) 0 (length raw.tables) ≡ None
   pub user : user_fault raw.subjects raw.user ≡ None
 
@@ -56,7 +58,7 @@ sound raw none =
     let two = both_none (names_fault raw.subjects raw.tables) (or_else owners (or_else user rules)) one.1 in
     let three = both_none owners (or_else user rules) two.1 in
     let four = both_none user rules three.1 in
-    record { limits = one.0; owners = three.0; user = four.0 }
+    record { limits = one.0; names = two.0; owners = three.0; user = four.0 }
 
 pub few_subjects : (raw : RawPolicy) → first_fault raw ≡ None → length raw.subjects ≤ 16
 few_subjects raw none = (kept raw.subjects raw.tables (sound raw none).limits).0
@@ -111,6 +113,8 @@ accepted raw none =
         listed = listed raw.subjects raw.tables;
       };
       owners_listed = owners_from raw.subjects 0 raw.tables (id_below raw.subjects) (owned raw.subjects raw.tables good.owners);
+      subjects_are_text = (names_are_text raw.subjects raw.tables good.names).0;
+      tables_are_text = (names_are_text raw.subjects raw.tables good.names).1;
       plain_within = λ s a inside. rw columns (within-plain raw.tables raw.rules raw.subjects s a inside);
       sealed_within = λ s a inside. rw columns (within-sealed raw.tables raw.rules raw.subjects s a inside);
     }

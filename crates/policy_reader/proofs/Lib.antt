@@ -5,5 +5,6 @@ pub mod Places
 pub mod RuleLaws
 pub mod SchemaLaws
 pub mod ShapeLaws
+pub mod TextLaws
 pub mod TreeLaws
 pub mod WithinLaws
