@@ -1,0 +1,97 @@
+ghost use Rattle.std.specs.Prelude.{◌≡◌, ℕ, suc, map, IfOk, OnOk};
+ghost use Rattle.csv.specs.Records.{fields_of};
+ghost use Rattle.mq_base.specs.Schema.{IsSchema, columns_of};
+ghost use Rattle.mq_base.specs.Table.{HasForm};
+ghost use Rattle.table_reader.specs.Faults.{header_fault, is_header, names_of, rows_under, types_of};
+ghost use Rattle.table_reader.specs.Outcome.{Answers, StopsAt, table_outcome};
+ghost use Rattle.table_reader.specs.Records.{IsReading, records_left};
+
+use crate::columns::{empty_columns, read_rows};
+use crate::records::{field, next_record, open};
+use crate::refusal::TableNo;
+use csv::{ByteRecord, Reader};
+use mq_base::{PlainTable, Schema, Seq, TableId, ValueType};
+use std::alloc::{AllocError, Global};
+
+/// The names of a table's columns, in the order of the policy.
+fn column_names<'a>(alloc: Global, schema: &'a Schema, t: TableId) -> Result<Vec<&'a [u8]>, AllocError>
+    ensures { IfOk result (λ names. map (λ name. name.now) names.items ≡ names_of (columns_of schema.now t.0)) }
+{
+    schema
+        .attrs
+        .as_slice()
+        .iter()
+        .filter(|column| column.table.0 == t.0)
+        .map(|column| column.name.as_bytes())
+        .collect(alloc)
+}
+
+/// The types of a table's columns, in the order of the policy.
+fn column_types(alloc: Global, schema: &Schema, t: TableId) -> Result<Vec<ValueType>, AllocError>
+    ensures { IfOk result (λ types. types.items ≡ types_of (columns_of schema.now t.0)) }
+{
+    schema
+        .attrs
+        .as_slice()
+        .iter()
+        .filter(|column| column.table.0 == t.0)
+        .map(|column| column.ty)
+        .collect(alloc)
+}
+
+/// Whether a record lists exactly these names, in this order.
+fn lists_names(names: &[&[u8]], current: &ByteRecord) -> bool
+    ensures { result ≡ is_header (map (λ name. name.now) names.now) (fields_of current.now) }
+{
+    if current.len() != names.len() {
+        return false;
+    }
+    for (at, name) in names.iter().enumerate() {
+        if field(current, at) != *name {
+            return false;
+        }
+    }
+    true
+}
+
+/// Reads the header, which is to list these names. `current` is only room.
+fn read_header(
+    reader: &mut Reader<&[u8]>,
+    current: &mut ByteRecord,
+    names: &[&[u8]],
+) -> Result<(), TableNo>
+    requires { IsReading reader.old }
+    ensures reading { OnOk result (IsReading reader.new) }
+    ensures fault { (n : ℕ) → StopsAt result (header_fault (map (λ name. name.now) names.now) (records_left (suc n) reader.old)) }
+    ensures rows { OnOk result ((n : ℕ) → rows_under (records_left (suc n) reader.old) ≡ records_left n reader.new) }
+{
+    if !next_record(reader, current)? || !lists_names(names, current) {
+        return Err(TableNo::BadHeader);
+    }
+    Ok(())
+}
+
+/// Reads the file of a table of the schema, as docs/FORMATS.md, "Table file", says: at most 100,000 rows under a
+/// header, INT within `i64`, TEXT of at most 120 bytes. It answers the values, or the first fault in the order
+/// told there. Its time is linear in the length of the file, and each TEXT is copied once.
+pub fn read_table(alloc: Global, bytes: &[u8], schema: &Schema, t: TableId) -> Result<PlainTable, TableNo>
+    requires { IsSchema schema.now }
+
+    // The content of the file, or its first fault.
+    ensures read { Answers result (table_outcome schema.now t.0 bytes.now) }
+    ensures form { IfOk result (HasForm schema.now) }
+    ensures named { IfOk result (λ table. table.table ≡ t) }
+{
+    let names = column_names(alloc, schema, t)?;
+    let types = column_types(alloc, schema, t)?;
+    let mut columns = empty_columns(alloc, types.len())?;
+    let mut reader = open(alloc, bytes);
+    let mut current = ByteRecord::new(alloc);
+    read_header(&mut reader, &mut current, names.as_slice())?;
+    let rows = read_rows(alloc, &mut reader, &mut current, types.as_slice(), columns.as_mut_slice())?;
+    Ok(PlainTable {
+        table: t,
+        rows,
+        columns: Seq::of(columns),
+    })
+}
