@@ -46,7 +46,7 @@ field_fault type.Text row col field = if nat_lt 120 (length field) then Some (Te
 
 -- the type of the column at a place, and the field of a row there; each is asked only where there is one
 abbrev pub type_at : List ValueType → ℕ → ValueType
-type_at types col = slice_index_or types col type.Text
+type_at types col = slice_index_or types col type.Int
 
 abbrev pub field_in : Fields → ℕ → List ℕ
 field_in fields col = slice_index_or fields col []

@@ -2,6 +2,7 @@ ghost use Rattle.std.specs.Prelude.{◌≡◌, ◌-◌, ◌^◌, min, option_map
 ghost use Rattle.table_reader.specs.Number.{cell_number, natural_of};
 
 /// The number of at least one digit and of nothing else, cut at 2^64 - 1.
+#[tactic(auto, using(crate::proofs::NumberLaws::digit_by_digit))]
 fn natural(digits: &[u8]) -> Option<u64>
     ensures { result ≡ option_map (λ n. min n (2 ^ 64 - 1)) (natural_of digits.now) }
 {

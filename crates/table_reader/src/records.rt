@@ -1,4 +1,4 @@
-ghost use Rattle.std.specs.Prelude.{◌≡◌, ℕ, suc, IfOk, OnOk, length, slice_index_or, []};
+ghost use Rattle.std.specs.Prelude.{◌≡◌, ◌<◌, ℕ, suc, IfOk, OnOk, length, slice_index_or, []};
 ghost use Rattle.csv.specs.Records.{fields_of};
 ghost use Rattle.table_reader.specs.Records.{IsReading, records_of, records_left, records_with};
 ghost use Rattle.table_reader.specs.Faults.{field_in};
@@ -19,15 +19,16 @@ pub fn open(alloc: Global, bytes: &[u8]) -> Reader<&[u8]>
 }
 
 /// Reads the next record into `current`, and answers whether there was one.
+#[tactic(auto, using(crate::proofs::RecordLaws::record_by_record))]
 pub fn next_record(reader: &mut Reader<&[u8]>, current: &mut ByteRecord) -> Result<bool, NoMemory>
     requires { IsReading reader.old }
     ensures reading { OnOk result (IsReading reader.new) }
     ensures records { IfOk result (λ found. (n : ℕ) → records_left (suc n) reader.old ≡ records_with found (fields_of current.new) (records_left n reader.new)) }
 {
-    match reader.read_byte_record(current) {
-        Ok(found) => Ok(found),
-        Err(_) => Err(NoMemory),
-    }
+    let Ok(found) = reader.read_byte_record(current) else {
+        return Err(NoMemory);
+    };
+    Ok(found)
 }
 
 /// The field of a record at a place.
