@@ -13,19 +13,6 @@ use csv::{ByteRecord, Reader};
 use mq_base::{PlainTable, Schema, Seq, TableId, ValueType};
 use std::alloc::{AllocError, Global};
 
-/// The names of a table's columns, in the order of the policy.
-fn column_names<'a>(alloc: Global, schema: &'a Schema, t: TableId) -> Result<Vec<&'a [u8]>, AllocError>
-    ensures { IfOk result (λ names. map (λ name. name.now) names.items ≡ names_of (columns_of schema.now t.0)) }
-{
-    schema
-        .attrs
-        .as_slice()
-        .iter()
-        .filter(|column| column.table.0 == t.0)
-        .map(|column| column.name.as_bytes())
-        .collect(alloc)
-}
-
 /// The types of a table's columns, in the order of the policy.
 fn column_types(alloc: Global, schema: &Schema, t: TableId) -> Result<Vec<ValueType>, AllocError>
     ensures { IfOk result (λ types. types.items ≡ types_of (columns_of schema.now t.0)) }
@@ -39,33 +26,36 @@ fn column_types(alloc: Global, schema: &Schema, t: TableId) -> Result<Vec<ValueT
         .collect(alloc)
 }
 
-/// Whether a record lists exactly these names, in this order.
-fn lists_names(names: &[&[u8]], current: &ByteRecord) -> bool
-    ensures { result ≡ is_header (map (λ name. name.now) names.now) (fields_of current.now) }
+/// Whether a record lists exactly the names of a table's columns, in the order of the policy.
+#[tactic(auto, using(crate::proofs::HeaderLaws::name_by_name))]
+fn lists_names(schema: &Schema, t: TableId, current: &ByteRecord) -> bool
+    ensures { result ≡ is_header (names_of (columns_of schema.now t.0)) (fields_of current.now) }
 {
-    if current.len() != names.len() {
-        return false;
-    }
-    for (at, name) in names.iter().enumerate() {
-        if field(current, at) != *name {
-            return false;
+    let mut at = 0;
+    for column in schema.attrs.as_slice() {
+        if column.table.0 == t.0 {
+            if current.len() <= at || column.name.as_bytes() != field(current, at) {
+                return false;
+            }
+            at += 1;
         }
     }
-    true
+    at == current.len()
 }
 
-/// Reads the header, which is to list these names. `current` is only room.
+/// Reads the header, which is to list the names of a table's columns. `current` is only room.
 fn read_header(
     reader: &mut Reader<&[u8]>,
     current: &mut ByteRecord,
-    names: &[&[u8]],
+    schema: &Schema,
+    t: TableId,
 ) -> Result<(), TableNo>
     requires { IsReading reader.old }
     ensures reading { OnOk result (IsReading reader.new) }
-    ensures fault { (n : ℕ) → StopsAt result (header_fault (map (λ name. name.now) names.now) (records_left (suc n) reader.old)) }
+    ensures fault { (n : ℕ) → StopsAt result (header_fault (names_of (columns_of schema.now t.0)) (records_left (suc n) reader.old)) }
     ensures rows { OnOk result ((n : ℕ) → rows_under (records_left (suc n) reader.old) ≡ records_left n reader.new) }
 {
-    if !next_record(reader, current)? || !lists_names(names, current) {
+    if !next_record(reader, current)? || !lists_names(schema, t, current) {
         return Err(TableNo::BadHeader);
     }
     Ok(())
@@ -82,12 +72,11 @@ pub fn read_table(alloc: Global, bytes: &[u8], schema: &Schema, t: TableId) -> R
     ensures form { IfOk result (HasForm schema.now) }
     ensures named { IfOk result (λ table. table.table ≡ t) }
 {
-    let names = column_names(alloc, schema, t)?;
-    let types = column_types(alloc, schema, t)?;
-    let mut columns = empty_columns(alloc, types.len())?;
     let mut reader = open(alloc, bytes);
     let mut current = ByteRecord::new(alloc);
-    read_header(&mut reader, &mut current, names.as_slice())?;
+    read_header(&mut reader, &mut current, schema, t)?;
+    let types = column_types(alloc, schema, t)?;
+    let mut columns = empty_columns(alloc, types.len())?;
     let rows = read_rows(alloc, &mut reader, &mut current, types.as_slice(), columns.as_mut_slice())?;
     Ok(PlainTable {
         table: t,
