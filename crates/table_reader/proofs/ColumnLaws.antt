@@ -1,9 +1,9 @@
 -- How columns grow: field by field within a row, and row by row.
-use Rattle.std.proofs.Common.{◌≡◌, ◌≢◌, ℕ, zero, suc, ◌+◌, ◌-◌, ◌<◌, ◌≤◌, List, [], ◌∷◌, ◌++◌, length, take, drop, set, get_or, map, replicate, refl, sym, ap, ◌∙◌, arith, add-one, append_assoc}
+use Rattle.std.proofs.Common.{◌≡◌, ℕ, zero, suc, ◌+◌, ◌<◌, ◌≤◌, List, [], ◌∷◌, ◌++◌, length, take, drop, set, get_or, replicate, refl, ap, arith, append_assoc}
 use Rattle.std.proofs.lemmas.List.{append-nil, drop_all, drop_more, get_or_at, length-take-le, set_at, take_all, take_more}
 use Rattle.mq_base.specs.declared.value.Value.{Value}
 use Rattle.mq_base.specs.declared.value.ValueType.{ValueType}
-use Rattle.table_reader.specs.Content.{cell_value, column_of, columns_from, with_rows}
+use Rattle.table_reader.specs.Content.{cell_value, columns_from, with_rows}
 use Rattle.table_reader.specs.Faults.{field_in, type_at}
 use Rattle.table_reader.specs.Records.{Fields}
 
@@ -20,6 +20,14 @@ pub before_placed : {X : Type 0} (new old : List X) (at : ℕ) (d : X) → at < 
 before_placed new old at d in_new in_old =
     let front : length (take at new) ≡ at = length-take-le at new (omega arith) in
     rw (drop_more old at d in_old) (get_or_at (take at new) (get_or old at d) (drop (at + 1) old) d at front)
+
+-- a list that is written over another of its length takes its place
+pub written_over : {X : Type 0} (new old : List X) (n : ℕ) → length new ≡ length old → length old ≡ n
+    → take n (new ++ drop (length new) old) ≡ new
+written_over new old n same long =
+    let none : drop (length new) old ≡ [] = drop_all (length new) old (omega arith) in
+    let whole : take n new ≡ new = take_all n new (omega arith) in
+    rw (none, append-nil new) whole
 
 -- there is a column for each type
 pub length-with_rows : (types : List ValueType) (col : ℕ) (columns : List (List Value)) (rows : List Fields) → length columns ≡ length types

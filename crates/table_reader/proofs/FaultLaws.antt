@@ -1,10 +1,10 @@
 -- How the first fault of rows goes on from row to row.
-use Rattle.std.proofs.Common.{◌≡◌, ℕ, suc, ◌+◌, ◌<◌, ◌≤◌, List, [], ◌∷◌, Option, Some, None, refl, arith, add-one, nat_lt, true, false}
+use Rattle.std.proofs.Common.{◌≡◌, ℕ, ◌+◌, ◌<◌, ◌≤◌, List, ◌∷◌, Some, None, refl, arith, add-one, nat_lt, true, false}
 use Rattle.std.proofs.lemmas.Bool.Decides.{nat_tests}
 use Rattle.mq_base.specs.declared.value.ValueType.{ValueType}
 use Rattle.table_reader.specs.declared.refusal.TableNo.{TableNo}
 use Rattle.table_reader.specs.declared.refusal.TableNo.TheVariants.{TooManyRows}
-use Rattle.table_reader.specs.Faults.{count_fault, record_fault, rows_fault}
+use Rattle.table_reader.specs.Faults.{record_fault, rows_fault}
 use Rattle.table_reader.specs.Records.{Fields}
 
 not_above : (limit n : ℕ) → n ≤ limit → nat_lt limit n ≡ false

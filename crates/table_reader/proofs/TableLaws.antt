@@ -1,19 +1,20 @@
 -- What the header and the rows of a table's file come to together.
-use Rattle.std.proofs.Common.{◌≡◌, ◌≢◌, ℕ, ◌≤◌, List, Option, Some, None, Result, Ok, Err, length, refl, sym, ◌∙◌, arith, length-map, absurd}
-use Rattle.std.specs.Prelude.{filter, count_by}
+use Rattle.std.proofs.Common.{◌≡◌, ◌≢◌, ℕ, ◌≤◌, List, Some, None, Result, Ok, Err, length, refl, arith}
+use Rattle.std.specs.Prelude.{IfOk, count_by}
+use Rattle.std.proofs.lemmas.List.{length-map}
 use Rattle.std.proofs.lemmas.List.Sums.{count_by-le-length, length-filter}
-use Rattle.base_laws.specs.Firsts.{or_else}
 use Rattle.mq_base.specs.declared.schema.AttrInfo.{AttrInfo}
 use Rattle.mq_base.specs.declared.schema.Schema.{Schema}
 use Rattle.mq_base.specs.declared.table.PlainTable.{PlainTable}
-use Rattle.mq_base.specs.declared.value.Value.{Value}
 use Rattle.mq_base.specs.Schema.{columns_of, is_column_of}
+use Rattle.mq_base.specs.Table.{HasForm}
 use Rattle.table_reader.specs.declared.refusal.TableNo.{TableNo}
 use Rattle.table_reader.specs.declared.refusal.TableNo.TheVariants.{BadHeader, BadRow, BadInt, TextTooLong, TooManyRows, NoMemory}
-use Rattle.table_reader.specs.Content.{columns_from, content_of}
-use Rattle.table_reader.specs.Faults.{header_fault, names_of, rows_fault, rows_under, table_fault, types_of}
-use Rattle.table_reader.specs.Outcome.{Answers, table_outcome, unless_fault}
+use Rattle.table_reader.specs.Content.{content_of}
+use Rattle.table_reader.specs.Faults.{header_fault, names_of, rows_fault, rows_under, types_of}
+use Rattle.table_reader.specs.Outcome.{Answers, StopsAt, table_outcome}
 use Rattle.table_reader.specs.Records.{Fields, records_of}
+use Rattle.table_reader.proofs.FormLaws.{content_form}
 
 -- a table has no more columns than the policy
 pub few_columns : (schema : Schema) (t : ℕ) → length (types_of (columns_of schema t)) ≤ length schema.attrs
@@ -39,18 +40,21 @@ pub header_refuses : (schema : Schema) (t : ℕ) (bytes : List ℕ) (e : TableNo
     → Answers (Err e) (table_outcome schema t bytes)
 header_refuses schema t bytes e fault = refuses e (table_outcome schema t bytes) (λ other. rw (fault other) refl)
 
--- the rows' fault is the first where the header has none
-pub rows_refuse : (schema : Schema) (t : ℕ) (bytes : List ℕ) (e : TableNo)
+-- what reading the rows answers is the answer, where the header has no fault
+pub rows_answer : (schema : Schema) (t : ℕ) (bytes : List ℕ) (rows : List Fields) (result : Result PlainTable TableNo)
     → header_fault (names_of (columns_of schema t)) (records_of bytes) ≡ None
-    → (e ≢ NoMemory → rows_fault (types_of (columns_of schema t)) 1 (rows_under (records_of bytes)) ≡ Some e)
-    → Answers (Err e) (table_outcome schema t bytes)
-rows_refuse schema t bytes e header fault =
-    refuses e (table_outcome schema t bytes) (λ other. rw (header, fault other) refl)
+    → rows_under (records_of bytes) ≡ rows
+    → StopsAt result (rows_fault (types_of (columns_of schema t)) 1 rows)
+    → IfOk result (λ table. table ≡ content_of t (types_of (columns_of schema t)) rows)
+    → Answers result (table_outcome schema t bytes)
+rows_answer schema t bytes rows (Ok table) header under fault content = rw (header, under, fault, content) refl
+rows_answer schema t bytes rows (Err e) header under fault content =
+    refuses e (table_outcome schema t bytes) (λ other. rw (header, under, fault other) refl)
 
--- the content, where neither has one
-pub is_content : (schema : Schema) (t : ℕ) (bytes : List ℕ) (table : PlainTable)
-    → header_fault (names_of (columns_of schema t)) (records_of bytes) ≡ None
-    → rows_fault (types_of (columns_of schema t)) 1 (rows_under (records_of bytes)) ≡ None
-    → table ≡ content_of t (types_of (columns_of schema t)) (rows_under (records_of bytes))
-    → table_outcome schema t bytes ≡ Ok table
-is_content schema t bytes table header rows is = rw (header, rows, is) refl
+-- a table that is read has the form that the schema tells
+pub rows_form : (schema : Schema) (t : ℕ) (rows : List Fields) (result : Result PlainTable TableNo)
+    → StopsAt result (rows_fault (types_of (columns_of schema t)) 1 rows)
+    → IfOk result (λ table. table ≡ content_of t (types_of (columns_of schema t)) rows)
+    → IfOk result (HasForm schema)
+rows_form schema t rows (Ok table) fault content = rw content (content_form schema t rows fault)
+rows_form schema t rows (Err e) fault content = tt

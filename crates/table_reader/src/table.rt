@@ -1,8 +1,9 @@
-ghost use Rattle.std.specs.Prelude.{◌≡◌, ℕ, suc, map, IfOk, OnOk};
+ghost use Rattle.std.specs.Prelude.{◌≡◌, ◌<◌, ◌^◌, ℕ, suc, length, IfOk, OnOk};
 ghost use Rattle.csv.specs.Records.{fields_of};
 ghost use Rattle.mq_base.specs.Schema.{IsSchema, columns_of};
 ghost use Rattle.mq_base.specs.Table.{HasForm};
-ghost use Rattle.table_reader.specs.Faults.{header_fault, is_header, names_of, rows_under, types_of};
+ghost use Rattle.table_reader.specs.Content.{content_of};
+ghost use Rattle.table_reader.specs.Faults.{header_fault, is_header, names_of, rows_fault, rows_under, types_of};
 ghost use Rattle.table_reader.specs.Outcome.{Answers, StopsAt, table_outcome};
 ghost use Rattle.table_reader.specs.Records.{IsReading, records_left};
 
@@ -61,6 +62,28 @@ fn read_header(
     Ok(())
 }
 
+/// Reads the rows that stand under the header: their number and their values. `current` is only room.
+fn read_content(
+    alloc: Global,
+    reader: &mut Reader<&[u8]>,
+    current: &mut ByteRecord,
+    types: &[ValueType],
+    t: TableId,
+) -> Result<PlainTable, TableNo>
+    requires reading { IsReading reader.old }
+    requires few { length types.now < 2 ^ 32 }
+    ensures fault { StopsAt result (rows_fault types.now 1 (records_left 100001 reader.old)) }
+    ensures content { IfOk result (λ table. table ≡ content_of t.0 types.now (records_left 100001 reader.old)) }
+{
+    let mut columns = empty_columns(alloc, types.len())?;
+    let rows = read_rows(alloc, reader, current, types, columns.as_mut_slice())?;
+    Ok(PlainTable {
+        table: t,
+        rows,
+        columns: Seq::of(columns),
+    })
+}
+
 /// Reads the file of a table of the schema, as docs/FORMATS.md, "Table file", says: at most 100,000 rows under a
 /// header, INT within `i64`, TEXT of at most 120 bytes. It answers the values, or the first fault in the order
 /// told there. Its time is linear in the length of the file, and each TEXT is copied once.
@@ -76,11 +99,5 @@ pub fn read_table(alloc: Global, bytes: &[u8], schema: &Schema, t: TableId) -> R
     let mut current = ByteRecord::new(alloc);
     read_header(&mut reader, &mut current, schema, t)?;
     let types = column_types(alloc, schema, t)?;
-    let mut columns = empty_columns(alloc, types.len())?;
-    let rows = read_rows(alloc, &mut reader, &mut current, types.as_slice(), columns.as_mut_slice())?;
-    Ok(PlainTable {
-        table: t,
-        rows,
-        columns: Seq::of(columns),
-    })
+    read_content(alloc, &mut reader, &mut current, types.as_slice(), t)
 }
