@@ -98,5 +98,3 @@ pub with_rows-empty : (types : List ValueType) (col : ℕ) (rows : List Fields)
     → with_rows types col (replicate (length types) []) rows ≡ columns_from types col rows
 with_rows-empty [] col rows = refl
 with_rows-empty (ty ∷ types) col rows = rw (with_rows-empty types (suc col) rows) refl
-
-pub ruleset row_by_row = (with_rows-cons, with_rows-none)

@@ -1,5 +1,5 @@
 -- Rows without a fault give a table of the right form.
-use Rattle.std.proofs.Common.{◌≡◌, ◌&&◌, ℕ, zero, suc, ◌+◌, ◌<◌, ◌≤◌, List, [], ◌∷◌, Option, Some, None, Bool, true, false, length, refl, arith, nat_lt}
+use Rattle.std.proofs.Common.{sym, ◌≡◌, ◌&&◌, ℕ, zero, suc, ◌+◌, ◌<◌, ◌≤◌, List, [], ◌∷◌, Option, Some, None, Bool, true, false, length, refl, arith, nat_lt}
 use Rattle.std.specs.Prelude.{All, T, ℤ, pos, negsuc, is_some, unwrap_or, if◌then◌else◌, int_le, ◌≤ℤ◌}
 use Rattle.std.specs.List.{AllZip}
 use Rattle.std.specs.Option.{option_and_then}
@@ -19,7 +19,7 @@ use Rattle.mq_base.specs.Value.{IsCell}
 use Rattle.table_reader.specs.declared.refusal.TableNo.TheVariants.{BadInt, TextTooLong, TooManyRows}
 use Rattle.table_reader.specs.Content.{cell_value, column_of, columns_from, content_of}
 use Rattle.table_reader.specs.Faults.{cell_fault, count_fault, field_fault, field_in, length_fault, record_fault, row_fault, rows_fault, type_at, types_of}
-use Rattle.table_reader.specs.Number.{fits_64_bits, int_of, within_64_bits}
+use Rattle.table_reader.specs.Number.{cell_number, fits_64_bits, int_of, within_64_bits}
 use Rattle.table_reader.specs.Records.{Fields}
 
 -- two tests of which neither finds a fault
@@ -55,13 +55,25 @@ number_fits z some = by (fits_64_bits z) refl
       (at_most (negsuc 9223372036854775807) z both.0, at_most z (pos 9223372036854775807) both.1)
   by false fits = cc (rw fits at some)
 
-number_is_cell : (number : Option ℤ) → is_some (option_and_then within_64_bits number) ≡ true → IsCell type.Int (value.Int (unwrap_or number (pos 0)))
-number_is_cell None some = cc
-number_is_cell (Some z) some = number_fits z some
+kept_fits : (y z : ℤ) → within_64_bits y ≡ Some z → is_some (within_64_bits z) ≡ true
+kept_fits y z kept = by (fits_64_bits y) refl
+  where
+  by : (fits : Bool) → fits_64_bits y ≡ fits → is_some (within_64_bits z) ≡ true
+  by true fits = let same : y ≡ z = cc (rw fits at kept) in rw (sym same, fits) refl
+  by false fits = cc (rw fits at kept)
+
+found_fits : (number : Option ℤ) (z : ℤ) → option_and_then within_64_bits number ≡ Some z → is_some (within_64_bits z) ≡ true
+found_fits None z found = cc
+found_fits (Some y) z found = kept_fits y z found
+
+number_is_cell : (field : List ℕ) (number : Option ℤ) → cell_number field ≡ number → is_some number ≡ true
+    → IsCell type.Int (value.Int (unwrap_or number (pos 0)))
+number_is_cell field None is some = cc
+number_is_cell field (Some z) is some = number_fits z (found_fits (int_of field) z is)
 
 -- the value of a field without a fault is one that a cell may hold
 pub field_is_cell : (ty : ValueType) (row col : ℕ) (field : List ℕ) → field_fault ty row col field ≡ None → IsCell ty (cell_value ty field)
-field_is_cell type.Int row col field passes = number_is_cell (int_of field) (held _ (BadInt row col) passes)
+field_is_cell type.Int row col field passes = number_is_cell field (cell_number field) refl (held _ (BadInt row col) passes)
 field_is_cell type.Text row col field passes = ltb-false 120 (length field) (not_held (nat_lt 120 (length field)) (TextTooLong row col) passes)
 
 -- a row without a fault has a cell at each place

@@ -96,7 +96,6 @@ fn push_row(
 }
 
 /// Reads every row that a reader has left into the columns, and answers their number. `current` is only room.
-#[tactic(auto, using(crate::proofs::ColumnLaws::row_by_row))]
 pub fn read_rows(
     alloc: Global,
     reader: &mut Reader<&[u8]>,

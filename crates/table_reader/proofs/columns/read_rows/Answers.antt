@@ -1,9 +1,10 @@
-use Rattle.std.proofs.Common.{◌≡◌, ◌+◌, ◌-◌, [], ◌∙◌, add-zero, arith, length, refl, sym}
+use Rattle.std.proofs.Common.{◌≡◌, ◌+◌, ◌-◌, [], ◌∙◌, add-zero, ap, arith, length, refl, sym}
 use Rattle.std.proofs.lemmas.Result.{err_from_is_err_and}
 use Rattle.csv.specs.Records.{fields_of}
+use Rattle.table_reader.specs.Content.{with_rows}
 use Rattle.table_reader.specs.Records.{records_left}
-use Rattle.table_reader.proofs.ColumnLaws.{with_rows-none}
-use Rattle.table_reader.proofs.FaultLaws.{row_stops, too_many_rows}
+use Rattle.table_reader.proofs.ColumnLaws.{with_rows-cons, with_rows-none}
+use Rattle.table_reader.proofs.FaultLaws.{row_passes, row_stops, too_many_rows}
 use Rattle.table_reader.proofs.RecordLaws.{none_left, one_left}
 use Rattle.table_reader.proofs.columns.read_rows.Goals as goal
 
@@ -26,6 +27,20 @@ returns-then-not-branch-clause-rows c = sym (rw (no_more c, add-zero) at c.loop-
 pub returns-then-not-branch-clause-values : goal.returns-then-not-branch-clause-values
 returns-then-not-branch-clause-values c = sym (c.loop-row.invariant.3
     ∙ rw (no_more c) (with_rows-none c.args.types.now 0 c.loop-row.columns (c.loop-row.auto.columns ∙ c.requires.columns)))
+
+pub loop-row-preserved : goal.loop-row-preserved
+loop-row-preserved c =
+    let one = one_left 100001 c.loop-row.row c.loop-row.reader c.next_record.new.reader c.in_ok-next_record.field-0
+        (fields_of c.next_record.new.current) (omega arith) c.in_ok-next_record.ensures.records c.if-not-branch.false in
+    let rest = records_left (100001 - (c.loop-row.row + 1)) c.next_record.new.reader in (
+      c.in_ok-next_record.ensures.reading,
+      c.loop-row.invariant.1
+      ∙ rw one (row_passes c.args.types.now (c.loop-row.row + 1) (fields_of c.next_record.new.current) rest (omega arith) c.in_ok-push_row.ensures.fault),
+      c.loop-row.invariant.2 ∙ rw one (omega arith),
+      c.loop-row.invariant.3
+      ∙ rw one (with_rows-cons c.args.types.now 0 c.loop-row.columns (fields_of c.next_record.new.current) rest)
+      ∙ ap (λ columns. with_rows c.args.types.now 0 columns rest) (sym c.in_ok-push_row.ensures.values),
+    )
 
 pub returns-in_err-push_row-clause-fault : goal.returns-in_err-push_row-clause-fault
 returns-in_err-push_row-clause-fault c =
