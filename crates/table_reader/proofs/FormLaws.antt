@@ -50,17 +50,17 @@ held false fault none = cc
 number_fits : (z : ℤ) → is_some (within_64_bits z) ≡ true → IsCell type.Int (value.Int z)
 number_fits z some = by (fits_64_bits z) refl
   where
-  by : (fits : Bool) → fits_64_bits z ≡ fits → IsCell type.Int (value.Int z)
-  by true fits = let both = both_true (int_le (negsuc 9223372036854775807) z) (int_le z (pos 9223372036854775807)) fits in
-      (at_most (negsuc 9223372036854775807) z both.0, at_most z (pos 9223372036854775807) both.1)
-  by false fits = cc (rw fits at some)
+    by : (fits : Bool) → fits_64_bits z ≡ fits → IsCell type.Int (value.Int z)
+    by true fits = let both = both_true (int_le (negsuc 9223372036854775807) z) (int_le z (pos 9223372036854775807)) fits in
+        (at_most (negsuc 9223372036854775807) z both.0, at_most z (pos 9223372036854775807) both.1)
+    by false fits = cc (rw fits at some)
 
 kept_fits : (y z : ℤ) → within_64_bits y ≡ Some z → is_some (within_64_bits z) ≡ true
 kept_fits y z kept = by (fits_64_bits y) refl
   where
-  by : (fits : Bool) → fits_64_bits y ≡ fits → is_some (within_64_bits z) ≡ true
-  by true fits = let same : y ≡ z = cc (rw fits at kept) in rw (sym same, fits) refl
-  by false fits = cc (rw fits at kept)
+    by : (fits : Bool) → fits_64_bits y ≡ fits → is_some (within_64_bits z) ≡ true
+    by true fits = let same : y ≡ z = cc (rw fits at kept) in rw (sym same, fits) refl
+    by false fits = cc (rw fits at kept)
 
 found_fits : (number : Option ℤ) (z : ℤ) → option_and_then within_64_bits number ≡ Some z → is_some (within_64_bits z) ≡ true
 found_fits None z found = cc
@@ -130,4 +130,5 @@ content_form schema t rows passes =
       few_rows = omega arith;
       columns = columns_form columns 0 rows (λ k place is below.
           let here : place ≡ k = omega arith in
-          rw here (rows_cells (types_of columns) 1 rows passes k (omega arith))) }
+          rw here (rows_cells (types_of columns) 1 rows passes k (omega arith)));
+    }

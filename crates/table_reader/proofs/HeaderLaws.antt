@@ -47,12 +47,12 @@ is_not_end at size below = grind (arith, nat_tests)
 pub header_end : (fields : Fields) (at : ℕ) → at ≤ length fields → is_header [] (drop at fields) ≡ (at == length fields)
 header_end fields at low = by (drop at fields) refl
   where
-  by : (rest : Fields) → drop at fields ≡ rest → is_header [] (drop at fields) ≡ (at == length fields)
-  by [] is =
-      let left : length fields - at ≡ 0 = rw is at (sym (length-drop at fields)) in
-      rw (is, is_end at (length fields) (omega arith)) refl
-  by (field ∷ rest) is =
-      let left : length fields - at ≡ suc (length rest) = rw is at (sym (length-drop at fields)) in
-      rw (is, is_not_end at (length fields) (omega arith)) refl
+    by : (rest : Fields) → drop at fields ≡ rest → is_header [] (drop at fields) ≡ (at == length fields)
+    by [] is =
+        let left : length fields - at ≡ 0 = rw is at (sym (length-drop at fields)) in
+        rw (is, is_end at (length fields) (omega arith)) refl
+    by (field ∷ rest) is =
+        let left : length fields - at ≡ suc (length rest) = rw is at (sym (length-drop at fields)) in
+        rw (is, is_not_end at (length fields) (omega arith)) refl
 
 pub ruleset name_by_name = (names_from-own, names_from-other, names_from-end, header_next, header_short, header_end)

@@ -5,3 +5,4 @@ pub mod FaultLaws
 pub mod HeaderLaws
 pub mod FormLaws
 pub mod TableLaws
+pub mod SchemaLaws

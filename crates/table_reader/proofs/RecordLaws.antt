@@ -51,7 +51,8 @@ goes_on old new found fields reading read first =
       defaults = rw read.2 reading.defaults;
       untrimmed = rw read.3 reading.untrimmed;
       ready = inl first;
-      goes_on = rw (nothing_skipped new read.1) pending }
+      goes_on = rw (nothing_skipped new read.1) pending;
+    }
 
 pub ruleset record_by_record = (one_read, goes_on)
 

@@ -10,3 +10,6 @@ mod table;
 
 pub use refusal::TableNo;
 pub use table::read_table;
+
+#[cfg(test)]
+mod tests;

@@ -11,18 +11,18 @@ returns-in_err-value-clause-fault c =
     let p = err_from_is_err_and c.from_residual.result c.from_residual.ensures.1 in
     let test = cell_fault c.args.types.now c.args.row (fields_of c.args.current.now) in
     rw (p.1, p.2) (λ other. c.loop-col.invariant.0
-        ∙ first_at-stop test c.loop-col.col (length c.args.types.now) c.in_err-value.field-0.0 (omega arith)
-        (rw c.field.ensures at (c.in_err-value.ensures.fault other)))
+    ∙ first_at-stop test c.loop-col.col (length c.args.types.now) c.in_err-value.field-0.0 (omega arith)
+    (rw c.field.ensures at (c.in_err-value.ensures.fault other)))
 
 pub loop-col-preserved : goal.loop-col-preserved
 loop-col-preserved c =
     let test = cell_fault c.args.types.now c.args.row (fields_of c.args.current.now) in
     let field = c.field.ensures in (
       c.loop-col.invariant.0
-      ∙ first_at-more test c.loop-col.col (length c.args.types.now) (omega arith) (rw field at c.in_ok-value.ensures.fault),
+          ∙ first_at-more test c.loop-col.col (length c.args.types.now) (omega arith) (rw field at c.in_ok-value.ensures.fault),
       value_pushed c.args.types.now c.args.columns.now (fields_of c.args.current.now) c.loop-col.col c.loop-col.columns
-      c.in_ok-value.value c.push.new.self c.index-columns-col.result (omega arith) c.requires.columns c.loop-col.invariant.1
-      (rw field at c.in_ok-value.ensures.value) c.in_ok-push.ensures.ok,
+          c.in_ok-value.value c.push.new.self c.index-columns-col.result (omega arith) c.requires.columns c.loop-col.invariant.1
+          (rw field at c.in_ok-value.ensures.value) c.in_ok-push.ensures.ok,
     )
 
 pub returns-clause-values : goal.returns-clause-values

@@ -31,31 +31,31 @@ returns-then-not-branch-clause-values c = sym (c.loop-row.invariant.3
 pub loop-row-preserved : goal.loop-row-preserved
 loop-row-preserved c =
     let one = one_left 100001 c.loop-row.row c.loop-row.reader c.next_record.new.reader c.in_ok-next_record.field-0
-        (fields_of c.next_record.new.current) (omega arith) c.in_ok-next_record.ensures.records c.if-not-branch.false in
+    (fields_of c.next_record.new.current) (omega arith) c.in_ok-next_record.ensures.records c.if-not-branch.false in
     let rest = records_left (100001 - (c.loop-row.row + 1)) c.next_record.new.reader in (
       c.in_ok-next_record.ensures.reading,
       c.loop-row.invariant.1
-      ∙ rw one (row_passes c.args.types.now (c.loop-row.row + 1) (fields_of c.next_record.new.current) rest (omega arith) c.in_ok-push_row.ensures.fault),
+          ∙ rw one (row_passes c.args.types.now (c.loop-row.row + 1) (fields_of c.next_record.new.current) rest (omega arith) c.in_ok-push_row.ensures.fault),
       c.loop-row.invariant.2 ∙ rw one (omega arith),
       c.loop-row.invariant.3
-      ∙ rw one (with_rows-cons c.args.types.now 0 c.loop-row.columns (fields_of c.next_record.new.current) rest)
-      ∙ ap (λ columns. with_rows c.args.types.now 0 columns rest) (sym c.in_ok-push_row.ensures.values),
+          ∙ rw one (with_rows-cons c.args.types.now 0 c.loop-row.columns (fields_of c.next_record.new.current) rest)
+          ∙ ap (λ columns. with_rows c.args.types.now 0 columns rest) (sym c.in_ok-push_row.ensures.values),
     )
 
 pub returns-in_err-push_row-clause-fault : goal.returns-in_err-push_row-clause-fault
 returns-in_err-push_row-clause-fault c =
     let p = err_from_is_err_and c.from_residual-in_err-push_row.result c.from_residual-in_err-push_row.ensures.1 in
     let one = one_left 100001 c.loop-row.row c.loop-row.reader c.next_record.new.reader c.in_ok-next_record.field-0
-        (fields_of c.next_record.new.current) (omega arith) c.in_ok-next_record.ensures.records c.if-not-branch.false in
+    (fields_of c.next_record.new.current) (omega arith) c.in_ok-next_record.ensures.records c.if-not-branch.false in
     let rest = records_left (100001 - (c.loop-row.row + 1)) c.next_record.new.reader in
     rw (p.1, p.2) (λ other. c.loop-row.invariant.1
-        ∙ rw one (row_stops c.args.types.now (c.loop-row.row + 1) (fields_of c.next_record.new.current) rest
-        c.in_err-push_row.field-0.0 (omega arith) (c.in_err-push_row.ensures.fault other)))
+    ∙ rw one (row_stops c.args.types.now (c.loop-row.row + 1) (fields_of c.next_record.new.current) rest
+    c.in_err-push_row.field-0.0 (omega arith) (c.in_err-push_row.ensures.fault other)))
 
 pub returns-then-branch-clause-fault : goal.returns-then-branch-clause-fault
 returns-then-branch-clause-fault c other =
     let one = one_left 100001 c.loop-row.row c.loop-row.reader c.next_record-2.new.reader c.in_ok-next_record-2.field-0
-        (fields_of c.next_record-2.new.current) (omega arith) c.in_ok-next_record-2.ensures.records c.if-branch.true in
+    (fields_of c.next_record-2.new.current) (omega arith) c.in_ok-next_record-2.ensures.records c.if-branch.true in
     let rest = records_left (100001 - (c.loop-row.row + 1)) c.next_record-2.new.reader in
     c.loop-row.invariant.1
     ∙ rw one (too_many_rows c.args.types.now (c.loop-row.row + 1) (fields_of c.next_record-2.new.current) rest (omega arith))
