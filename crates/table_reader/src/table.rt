@@ -93,7 +93,7 @@ pub fn read_table(
     schema: &Schema,
     t: TableId,
 ) -> Result<PlainTable, TableNo>
-    requires { IsSchema schema.now }
+    requires schema { IsSchema schema.now }
 
     // The content of the file, or its first fault.
     ensures read { Answers result (table_outcome schema.now t.0 bytes.now) }
