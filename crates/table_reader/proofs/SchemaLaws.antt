@@ -1,4 +1,4 @@
--- A schema of one table with two columns is one.
+-- One table with two columns is a schema, as the tests make it.
 use Rattle.std.proofs.Common.{◌≡◌, ℕ, zero, suc, ◌<◌, [], ◌∷◌, Some, true, false, refl, arith}
 use Rattle.std.specs.Prelude.{◌↔◌, IfSome, slice_get}
 use Rattle.std.proofs.lemmas.Nat.Bits.{bit_at_above}
@@ -20,21 +20,22 @@ two_columns table first second set own_first own_second = record {
   few_tables = omega arith;
   few_attributes = omega arith;
   placed = placed;
-  listed = listed }
+  listed = listed;
+}
   where
-  schema : Schema
-  schema = record { tables = table ∷ []; attrs = first ∷ second ∷ [] }
+    schema : Schema
+    schema = record { tables = table ∷ []; attrs = first ∷ second ∷ [] }
 
-  placed : (a : ℕ) → IfSome (table_of schema a) (λ t. t < 1)
-  placed zero = rw own_first (omega arith)
-  placed (suc zero) = rw own_second (omega arith)
-  placed (suc (suc a)) = tt
+    placed : (a : ℕ) → IfSome (table_of schema a) (λ t. t < 1)
+    placed zero = rw own_first (omega arith)
+    placed (suc zero) = rw own_second (omega arith)
+    placed (suc (suc a)) = tt
 
-  members : (a : ℕ) → (has table.attrs.0 a ≡ true) ↔ (table_of schema a ≡ Some 0)
-  members zero = rw (set, own_first) (λ member. refl, λ is. refl)
-  members (suc zero) = rw (set, own_second) (λ member. refl, λ is. refl)
-  members (suc (suc a)) = rw (set, no_third a) (λ member. cc, λ is. cc)
+    members : (a : ℕ) → (has table.attrs.0 a ≡ true) ↔ (table_of schema a ≡ Some 0)
+    members zero = rw (set, own_first) (λ member. refl, λ is. refl)
+    members (suc zero) = rw (set, own_second) (λ member. refl, λ is. refl)
+    members (suc (suc a)) = rw (set, no_third a) (λ member. cc, λ is. cc)
 
-  listed : (t : ℕ) → IfSome (slice_get (table ∷ []) t) (λ info. (a : ℕ) → (has info.attrs.0 a ≡ true) ↔ (table_of schema a ≡ Some t))
-  listed zero = members
-  listed (suc t) = tt
+    listed : (t : ℕ) → IfSome (slice_get (table ∷ []) t) (λ info. (a : ℕ) → (has info.attrs.0 a ≡ true) ↔ (table_of schema a ≡ Some t))
+    listed zero = members
+    listed (suc t) = tt

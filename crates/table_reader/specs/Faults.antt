@@ -10,10 +10,11 @@ use Rattle.table_reader.specs.declared.refusal.TableNo.TheVariants.{BadHeader, B
 use Rattle.table_reader.specs.Number.{cell_number}
 use Rattle.table_reader.specs.Records.{Fields}
 
--- the names and the types of columns, in their order
+-- the names of columns, in their order
 abbrev pub names_of : List AttrInfo → List (List ℕ)
 names_of columns = map (λ (column : AttrInfo). column.name) columns
 
+-- the types of columns, in their order
 abbrev pub types_of : List AttrInfo → List ValueType
 types_of columns = map (λ (column : AttrInfo). column.ty) columns
 
@@ -44,10 +45,11 @@ abbrev pub field_fault : ValueType → ℕ → ℕ → List ℕ → Option Table
 field_fault type.Int row col field = if is_some (cell_number field) then None else Some (BadInt row col)
 field_fault type.Text row col field = if nat_lt 120 (length field) then Some (TextTooLong row col) else None
 
--- the type of the column at a place, and the field of a row there; each is asked only where there is one
+-- the type of the column at a place; it is asked only where there is one
 abbrev pub type_at : List ValueType → ℕ → ValueType
 type_at types col = slice_index_or types col type.Int
 
+-- the field of a row at a place; it is asked only where there is one
 abbrev pub field_in : Fields → ℕ → List ℕ
 field_in fields col = slice_index_or fields col []
 

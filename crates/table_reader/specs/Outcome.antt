@@ -15,7 +15,7 @@ unless_fault None value = Ok value
 unless_fault (Some fault) value = Err fault
 
 -- the content of a table's file, or its first fault
-abbrev pub table_outcome : Schema → ℕ → List ℕ → Result PlainTable TableNo
+unfoldable pub table_outcome : Schema → ℕ → List ℕ → Result PlainTable TableNo
 table_outcome schema t bytes =
     unless_fault (table_fault (columns_of schema t) (records_of bytes))
     (content_of t (types_of (columns_of schema t)) (rows_under (records_of bytes)))

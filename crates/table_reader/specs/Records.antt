@@ -1,7 +1,7 @@
 -- The records that a table's file is read as, by the rules of `csv`: its defaults, no trimming, one byte order mark
 -- taken off. docs/FORMATS.md, "Table file", tells it in prose.
 use Rattle.std.specs.Prelude.{◌≡◌, ℕ, Bool, true, false, List, [], ◌∷◌, Option, Some, None, IsSome}
-use Rattle.std.proofs.Common.{Bor}
+use Rattle.std.specs.Borrow.{Bor}
 use Rattle.csv.specs.Reading.{Ready, default_config, reader_config, reader_state, reader_trim, records_from, source_of, strip_bom}
 use Rattle.csv.specs.declared.parser.State.{State}
 use Rattle.csv.specs.declared.parser.State.TheVariants as st

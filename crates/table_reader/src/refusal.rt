@@ -7,7 +7,7 @@ use std::error::Error;
 use std::fmt;
 
 /// Why a table's file is refused: its first fault in the order of docs/FORMATS.md, "Table file". Rows are
-/// counted from 1, the header left out; columns from 0.
+/// counted from 1, the header left out; columns from 0. The refusals stand in the order of their codes, from 1.
 #[derive(Clone, Copy, Debug, PartialEq, Eq)]
 pub enum TableNo {
     /// The first record does not list the names of the table's columns in the order of the policy, or there

@@ -87,6 +87,7 @@ fn read_content(
 /// Reads the file of a table of the schema, as docs/FORMATS.md, "Table file", says: at most 100,000 rows under a
 /// header, INT within `i64`, TEXT of at most 120 bytes. It answers the values, or the first fault in the order
 /// told there. Its time is linear in the length of the file, and each TEXT is copied once.
+#[tactic(auto, unfolding(crate::specs::Outcome::table_outcome))]
 pub fn read_table(
     alloc: Global,
     bytes: &[u8],
