@@ -1,0 +1,8 @@
+pub mod RecordLaws
+pub mod NumberLaws
+pub mod ColumnLaws
+pub mod FaultLaws
+pub mod HeaderLaws
+pub mod FormLaws
+pub mod TableLaws
+pub mod SchemaLaws

@@ -1,0 +1,5 @@
+pub mod Number
+pub mod Records
+pub mod Faults
+pub mod Content
+pub mod Outcome

@@ -1,0 +1,42 @@
+ghost use Rattle.std.specs.Prelude.{◌≡◌, ◌-◌, ◌^◌, min, option_map};
+ghost use Rattle.table_reader.specs.Number.{cell_number, natural_of, within_64_bits};
+
+/// The number of at least one digit and of nothing else, cut at 2^64 - 1.
+#[tactic(auto, using(crate::proofs::NumberLaws::digit_by_digit))]
+fn natural(digits: &[u8]) -> Option<u64>
+    ensures { result ≡ option_map (λ n. min n (2 ^ 64 - 1)) (natural_of digits.now) }
+{
+    if digits.is_empty() {
+        return None;
+    }
+    let mut number: u64 = 0;
+    for digit in digits {
+        if !digit.is_ascii_digit() {
+            return None;
+        }
+        number = number
+            .saturating_mul(10)
+            .saturating_add(u64::from(*digit - b'0'));
+    }
+    Some(number)
+}
+
+/// The number itself where `i64` holds it.
+fn within_i64(number: i128) -> Option<i128>
+    ensures { result ≡ within_64_bits number }
+{
+    if number < i128::from(i64::MIN) || i128::from(i64::MAX) < number {
+        return None;
+    }
+    Some(number)
+}
+
+/// The number of an INT field: an optional `-` and at least one digit, with a value within `i64`.
+pub fn integer(field: &[u8]) -> Option<i128>
+    ensures { result ≡ cell_number field.now }
+{
+    match field.strip_prefix(b"-") {
+        Some(digits) => within_i64(-i128::from(natural(digits)?)),
+        None => within_i64(i128::from(natural(field)?)),
+    }
+}
