@@ -1,0 +1,9 @@
+pub mod Bytes
+pub mod Cuts
+pub mod Insides
+pub mod LongestLaws
+pub mod Runs
+pub mod SliceLaws
+pub mod Steps
+pub mod TextEnds
+pub mod Turns
