@@ -28,22 +28,23 @@ IsOf schema table a = table_of schema a.0 ≡ Some table.0
 table_there : (schema : Schema) (name : List ℕ) → IfSome (table_named schema name) (λ t. t.0 < length schema.tables)
 table_there schema name = by_place (table_place schema.tables name) refl
   where
-  by_place : (found : Option ℕ) → table_place schema.tables name ≡ found
-      → IfSome (option_map (λ place. record { 0 = place }) found) (λ (t : TableId). t.0 < length schema.tables)
-  by_place None is = tt
-  by_place (Some place) is = position_below (λ (info : TableInfo). bytes_eq info.name name) schema.tables place is
+    by_place : (found : Option ℕ) → table_place schema.tables name ≡ found
+        → IfSome (option_map (λ place. record { 0 = place }) found) (λ (t : TableId). t.0 < length schema.tables)
+    by_place None is = tt
+    by_place (Some place) is = position_below (λ (info : TableInfo). bytes_eq info.name name) schema.tables place is
 
 column_there : (schema : Schema) (table : TableId) (name : List ℕ) → IfSome (column_named schema table name) (IsOf schema table)
 column_there schema table name = by_place (column_place schema.attrs table name) refl
   where
-  of_table : (info : AttrInfo) → (is_column_of table.0 info && bytes_eq info.name name) ≡ true → info.table.0 ≡ table.0
-  of_table info passed = grind (arith, nat_tests)
-  by_place : (found : Option ℕ) → column_place schema.attrs table name ≡ found
-      → IfSome (option_map (λ place. record { 0 = place }) found) (IsOf schema table)
-  by_place None is = tt
-  by_place (Some place) is =
-      let found = position_found (λ (info : AttrInfo). is_column_of table.0 info && bytes_eq info.name name) schema.attrs place is in
-      ap (option_map (λ (info : AttrInfo). info.table.0)) found.1 ∙ ap Some (of_table found.0 found.2)
+    of_table : (info : AttrInfo) → (is_column_of table.0 info && bytes_eq info.name name) ≡ true → info.table.0 ≡ table.0
+    of_table info passed = grind (arith, nat_tests)
+
+    by_place : (found : Option ℕ) → column_place schema.attrs table name ≡ found
+        → IfSome (option_map (λ place. record { 0 = place }) found) (IsOf schema table)
+    by_place None is = tt
+    by_place (Some place) is =
+        let found = position_found (λ (info : AttrInfo). is_column_of table.0 info && bytes_eq info.name name) schema.attrs place is in
+        ap (option_map (λ (info : AttrInfo). info.table.0)) found.1 ∙ ap Some (of_table found.0 found.2)
 
 All-cons : {X : Type 0} (P : X → Type 0) (x : X) (xs : List X) → P x → All P xs → All P (x ∷ xs)
 All-cons P x xs here others zero d below = here
@@ -54,34 +55,36 @@ columns_there schema table [] = λ k d below. absurd (omega arith)
 columns_there schema table (name ∷ names) =
     by_first (column_named schema table name) (column_there schema table name) (map (column_named schema table) names) (columns_there schema table names)
   where
-  by_rest : (a : AttrId) → IsOf schema table a → (rest : Option (List AttrId)) → IfSome rest (All (IsOf schema table))
-      → IfSome (option_map (λ more. a ∷ more) rest) (All (IsOf schema table))
-  by_rest a here None others = tt
-  by_rest a here (Some more) others = All-cons (IsOf schema table) a more here others
-  by_first : (first : Option AttrId) → IfSome first (IsOf schema table) → (rest : List (Option AttrId)) → IfSome (all_of rest) (All (IsOf schema table))
-      → IfSome (all_of (first ∷ rest)) (All (IsOf schema table))
-  by_first None here rest others = tt
-  by_first (Some a) here rest others = by_rest a here (all_of rest) others
+    by_rest : (a : AttrId) → IsOf schema table a → (rest : Option (List AttrId)) → IfSome rest (All (IsOf schema table))
+        → IfSome (option_map (λ more. a ∷ more) rest) (All (IsOf schema table))
+    by_rest a here None others = tt
+    by_rest a here (Some more) others = All-cons (IsOf schema table) a more here others
+
+    by_first : (first : Option AttrId) → IfSome first (IsOf schema table) → (rest : List (Option AttrId)) → IfSome (all_of rest) (All (IsOf schema table))
+        → IfSome (all_of (first ∷ rest)) (All (IsOf schema table))
+    by_first None here rest others = tt
+    by_first (Some a) here rest others = by_rest a here (all_of rest) others
 
 bound_there : (schema : Schema) (asked : Asked) → IfSome (bound schema asked) (IsSelectionOf schema)
 bound_there schema asked = by_table (table_named schema asked.table) (table_there schema asked.table)
   where
-  by_columns : (table : TableId) → table.0 < length schema.tables → (columns : Option (List AttrId)) → IfSome columns (All (IsOf schema table))
-      → IfSome (option_map (λ cs. record { table = table; columns = cs }) columns) (IsSelectionOf schema)
-  by_columns table within None there = tt
-  by_columns table within (Some cs) there = record { table = within; columns = there }
-  by_table : (table : Option TableId) → IfSome table (λ t. t.0 < length schema.tables)
-      → IfSome (option_and_then (selection_in schema asked) table) (IsSelectionOf schema)
-  by_table None within = tt
-  by_table (Some t) within = by_columns t within (columns_named schema t asked.columns) (columns_there schema t asked.columns)
+    by_columns : (table : TableId) → table.0 < length schema.tables → (columns : Option (List AttrId)) → IfSome columns (All (IsOf schema table))
+        → IfSome (option_map (λ cs. record { table = table; columns = cs }) columns) (IsSelectionOf schema)
+    by_columns table within None there = tt
+    by_columns table within (Some cs) there = record { table = within; columns = there }
+
+    by_table : (table : Option TableId) → IfSome table (λ t. t.0 < length schema.tables)
+        → IfSome (option_and_then (selection_in schema asked) table) (IsSelectionOf schema)
+    by_table None within = tt
+    by_table (Some t) within = by_columns t within (columns_named schema t asked.columns) (columns_there schema t asked.columns)
 
 -- what tokens select stands in the schema
 pub tokens_there : (schema : Schema) (xs : List Lexeme) → IfSome (selected_by schema xs) (IsSelectionOf schema)
 tokens_there schema xs = by_asked (asked_of xs)
   where
-  by_asked : (asked : Option Asked) → IfSome (option_and_then (bound schema) asked) (IsSelectionOf schema)
-  by_asked None = tt
-  by_asked (Some a) = bound_there schema a
+    by_asked : (asked : Option Asked) → IfSome (option_and_then (bound schema) asked) (IsSelectionOf schema)
+    by_asked None = tt
+    by_asked (Some a) = bound_there schema a
 
 -- so does an answer that is what tokens select
 pub placed : (schema : Schema) (xs : List Lexeme) (result : Result Selection SelectionNo)
@@ -94,9 +97,9 @@ placed schema xs (Err NoMemory) is = tt
 pub no_text : (schema : Schema) (bytes : List ℕ) → ¬ (IsUtf8 bytes) → selection_of schema bytes ≡ None
 no_text schema bytes bad = by_test (is_utf8 bytes) refl
   where
-  by_test : (b : Bool) → is_utf8 bytes ≡ b → option_and_then (selected_by schema) (cond b (result_ok (lexed bytes)) None) ≡ None
-  by_test true good = absurd (bad (IsUtf8-from_is_utf8 bytes good))
-  by_test false bad = refl
+    by_test : (b : Bool) → is_utf8 bytes ≡ b → option_and_then (selected_by schema) (cond b (result_ok (lexed bytes)) None) ≡ None
+    by_test true good = absurd (bad (IsUtf8-from_is_utf8 bytes good))
+    by_test false bad = refl
 
 -- bytes that are a text with these tokens select what they do
 pub text_selects : (schema : Schema) (bytes text : List ℕ) (xs : List Lexeme) → (text ≡ bytes) × IsUtf8 bytes → lexed text ≡ Ok xs

@@ -12,7 +12,7 @@ use Rattle.sql_lexer.specs.Lexing.{Lexeme, lexed}
 use Rattle.selection_reader.specs.declared.selection.Selection.{Selection}
 use Rattle.selection_reader.specs.declared.refusal.SelectionNo.{SelectionNo}
 use Rattle.selection_reader.specs.declared.refusal.SelectionNo.TheVariants.{Refused, NoMemory}
-use Rattle.selection_reader.specs.Asking.{Asked, asked_of, is_word, are_in_place, names_from, is_select_list}
+use Rattle.selection_reader.specs.Asking.{Asked, asked_of, is_word, names_from, is_select_list}
 
 -- the place of the first table with this name
 abbrev pub table_place : List TableInfo → List ℕ → Option ℕ
@@ -43,10 +43,6 @@ columns_named schema table names = all_of (map (column_named schema table) names
 -- the attribute that a token of a select list names: a word, with the name of one in the table
 abbrev pub column_in : Schema → TableId → Lexeme → Option AttrId
 column_in schema table x = if is_word x then column_named schema table x.text else None
-
--- the attributes of the rest of a select list, whose first token stands at this place
-abbrev pub columns_from : Schema → TableId → ℕ → List Lexeme → Option (List AttrId)
-columns_from schema table from xs = if are_in_place from xs then columns_named schema table (names_from from xs) else None
 
 -- the attributes of a select list
 abbrev pub columns_in : Schema → TableId → List Lexeme → Option (List AttrId)

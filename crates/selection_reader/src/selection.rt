@@ -32,7 +32,12 @@ fn column_of(token: &Token, schema: &Schema, table: TableId) -> Result<AttrId, S
 }
 
 /// The attributes of a select list.
-fn columns_of(alloc: Global, list: &[Token], schema: &Schema, table: TableId) -> Result<Seq<AttrId>, SelectionNo>
+fn columns_of(
+    alloc: Global,
+    list: &[Token],
+    schema: &Schema,
+    table: TableId,
+) -> Result<Seq<AttrId>, SelectionNo>
     requires { length schema.now.attrs ≤ 64 }
     ensures { Answers result (columns_in schema.now table (map lexeme list.now)) }
 {
@@ -75,7 +80,11 @@ fn selected_by(alloc: Global, tokens: &[Token], schema: &Schema) -> Result<Selec
 ///
 /// `Refused` where the bytes are no UTF-8, no such query, or name what the schema does not have; `NoMemory` where
 /// the allocator refused a request.
-pub fn read_selection(alloc: Global, bytes: &[u8], schema: &Schema) -> Result<Selection, SelectionNo>
+pub fn read_selection(
+    alloc: Global,
+    bytes: &[u8],
+    schema: &Schema,
+) -> Result<Selection, SelectionNo>
     requires short { length bytes.now ≤ 67108864 }
     requires few_tables { length schema.now.tables ≤ 8 }
     requires few_attributes { length schema.now.attrs ≤ 64 }
@@ -91,3 +100,6 @@ pub fn read_selection(alloc: Global, bytes: &[u8], schema: &Schema) -> Result<Se
         Err(_) => Err(SelectionNo::Refused),
     }
 }
+
+#[cfg(test)]
+mod tests;
