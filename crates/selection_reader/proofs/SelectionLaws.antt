@@ -1,11 +1,9 @@
 -- What is selected stands in the schema, and what bytes select by the tokens of the text that they are.
-use Rattle.std.proofs.Common.{◌≡◌, ℕ, zero, suc, ◌<◌, arith, Bool, true, false, ◌&&◌, cond, eqb-true, List, [], ◌∷◌, map, length, get_or, Option, Some, None, Result, Ok, Err, refl, ap, subst, ◌∙◌, bytes_eq}
-use Rattle.std.specs.Prelude.{position, slice_get, IfSome, IfOk, All, IsUtf8, option_map, option_and_then}
+use Rattle.std.proofs.Common.{◌≡◌, ℕ, zero, suc, ◌<◌, arith, Bool, true, false, ◌&&◌, cond, List, [], ◌∷◌, map, length, Option, Some, None, Result, Ok, Err, refl, ap, subst, ◌∙◌, bytes_eq}
+use Rattle.std.specs.Prelude.{IfSome, IfOk, All, IsUtf8, option_map, option_and_then}
 use Rattle.std.specs.Result.{result_ok}
 use Rattle.std.specs.Str.{is_utf8}
 use Rattle.std.proofs.lemmas.Bool.Decides.{nat_tests}
-use Rattle.std.proofs.lemmas.List.Quantifiers.{position-Some}
-use Rattle.std.proofs.lemmas.Option.{slice_get-get_or}
 use Rattle.std.proofs.lemmas.Str.{IsUtf8-from_is_utf8, is_utf8-from_IsUtf8}
 use Rattle.mq_base.specs.declared.ids.AttrId.{AttrId}
 use Rattle.mq_base.specs.declared.ids.TableId.{TableId}
@@ -18,7 +16,7 @@ use Rattle.selection_reader.specs.declared.selection.Selection.{Selection}
 use Rattle.selection_reader.specs.declared.refusal.SelectionNo.{SelectionNo}
 use Rattle.selection_reader.specs.declared.refusal.SelectionNo.TheVariants.{Refused, NoMemory}
 use Rattle.selection_reader.specs.Asking.{Asked, asked_of}
-use Rattle.selection_reader.specs.Binding.{table_place, column_place, table_named, column_named, columns_named, all_of, selection_in, bound, selected_by, selection_of, tokens_of, Answers, IsSelectionOf}
+use Rattle.selection_reader.specs.Binding.{table_place, column_place, table_named, column_named, columns_named, all_of, selection_in, bound, selected_by, selection_of, Answers, IsSelectionOf}
 use Rattle.selection_reader.proofs.PlaceLaws.{position_below, position_found}
 
 -- an attribute of this table
@@ -95,6 +93,7 @@ placed schema xs (Err NoMemory) is = tt
 
 -- bytes that are no text select nothing
 pub no_text : (schema : Schema) (bytes : List ℕ) → ¬ (IsUtf8 bytes) → selection_of schema bytes ≡ None
+unfolding selection_of
 no_text schema bytes bad = by_test (is_utf8 bytes) refl
   where
     by_test : (b : Bool) → is_utf8 bytes ≡ b → option_and_then (selected_by schema) (cond b (result_ok (lexed bytes)) None) ≡ None
@@ -104,6 +103,7 @@ no_text schema bytes bad = by_test (is_utf8 bytes) refl
 -- bytes that are a text with these tokens select what they do
 pub text_selects : (schema : Schema) (bytes text : List ℕ) (xs : List Lexeme) → (text ≡ bytes) × IsUtf8 bytes → lexed text ≡ Ok xs
     → selection_of schema bytes ≡ selected_by schema xs
+unfolding selection_of
 text_selects schema bytes text xs is has =
     let tokens = subst (λ (t : List ℕ). lexed t ≡ Ok xs) is.0 has in
     rw (is_utf8-from_IsUtf8 bytes is.1, tokens) refl

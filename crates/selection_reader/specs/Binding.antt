@@ -1,5 +1,5 @@
 -- What a query of one table selects in a schema: ids in place of names. docs/FORMATS.md, "Query", has the rules of tokens.
-use Rattle.std.specs.Prelude.{◌≡◌, ℕ, ◌<◌, Bool, ◌&&◌, if◌then◌else◌, List, [], ◌∷◌, length, map, bytes_eq, position, All, Option, Some, None, option_map, option_and_then, Result, Ok, Err}
+use Rattle.std.specs.Prelude.{◌≡◌, ℕ, ◌<◌, ◌&&◌, if◌then◌else◌, List, [], ◌∷◌, length, map, bytes_eq, position, All, Option, Some, None, option_map, option_and_then, Result, Ok, Err}
 use Rattle.std.specs.Result.{result_ok}
 use Rattle.std.specs.Str.{is_utf8}
 use Rattle.mq_base.specs.declared.ids.TableId.{TableId}
@@ -40,20 +40,20 @@ all_of (Some x ∷ rest) = option_map (λ xs. x ∷ xs) (all_of rest)
 abbrev pub columns_named : Schema → TableId → List (List ℕ) → Option (List AttrId)
 columns_named schema table names = all_of (map (column_named schema table) names)
 
--- the attribute that a token of a select list names: a word, with the name of one in the table
+-- the attribute that a token of a select list names: the token is a word, and the name of a column of this table
 abbrev pub column_in : Schema → TableId → Lexeme → Option AttrId
 column_in schema table x = if is_word x then column_named schema table x.text else None
 
--- the attributes of a select list
+-- the attributes that tokens name, where they are a select list of columns of this table
 abbrev pub columns_in : Schema → TableId → List Lexeme → Option (List AttrId)
 columns_in schema table xs = if is_select_list xs then columns_named schema table (names_from 0 xs) else None
 
--- what names select, once their table is found
+-- what names select in this table, where each column is found
 abbrev pub selection_in : Schema → Asked → TableId → Option Selection
 selection_in schema asked table =
     option_map (λ columns. record { table = table; columns = columns }) (columns_named schema table asked.columns)
 
--- what names select: the first table with that name, and for each column the first with that name in that table
+-- what names select: the first table with its name, and for each column the first of that table with its name
 abbrev pub bound : Schema → Asked → Option Selection
 bound schema asked = option_and_then (selection_in schema asked) (table_named schema asked.table)
 
@@ -66,10 +66,10 @@ abbrev pub tokens_of : List ℕ → Option (List Lexeme)
 tokens_of bytes = if is_utf8 bytes then result_ok (lexed bytes) else None
 
 -- what bytes select
-abbrev pub selection_of : Schema → List ℕ → Option Selection
+unfoldable pub selection_of : Schema → List ℕ → Option Selection
 selection_of schema bytes = option_and_then (selected_by schema) (tokens_of bytes)
 
--- an answer is what is there, and a refusal says that nothing is. Want of memory is tied to no cause
+-- an answer is the wanted value, and a refusal says that there is none. Want of memory is tied to no cause
 abbrev pub Answers : {A : Type 0} → Result A SelectionNo → Option A → Type 0
 Answers (Ok x) wanted = wanted ≡ Some x
 Answers (Err Refused) wanted = wanted ≡ None

@@ -80,6 +80,7 @@ fn selected_by(alloc: Global, tokens: &[Token], schema: &Schema) -> Result<Selec
 ///
 /// `Refused` where the bytes are no UTF-8, no such query, or name what the schema does not have; `NoMemory` where
 /// the allocator refused a request.
+#[tactic(auto, unfolding(crate::specs::Binding::selection_of))]
 pub fn read_selection(
     alloc: Global,
     bytes: &[u8],
