@@ -1,5 +1,5 @@
 -- Tests of single bytes: no byte begins tokens of two kinds, and what ends a token is ASCII.
-use Rattle.std.proofs.Common.{◌≡◌, ◌≢◌, ℕ, ◌<◌, ◌==◌, Bool, true, false, refl, arith}
+use Rattle.std.proofs.Common.{◌≡◌, ◌≢◌, ℕ, ◌<◌, ◌==◌, true, false, arith}
 use Rattle.std.specs.Char.{is_ascii_digit}
 use Rattle.std.proofs.lemmas.Bool.Decides.{nat_tests}
 use Rattle.sql_lexer.specs.Lexing.{is_white, is_letter, is_word_byte, is_quote, is_short_symbol, is_long_symbol}

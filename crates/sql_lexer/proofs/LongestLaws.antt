@@ -1,21 +1,19 @@
 -- What stands in front is a token, and the longest that can be taken; what is refused begins none.
-use Rattle.std.proofs.Common.{◌≡◌, ◌≢◌, ◌⊎◌, inl, inr, ℕ, zero, suc, ◌+◌, ◌-◌, ◌<◌, ◌≤◌, ◌==◌, true, false, List, [], ◌∷◌, ◌++◌, length, take, drop, get_or, Option, Some, None, IsUtf8, refl, sym, ap, subst, ◌∙◌, arith, append_assoc, length-append, length-take-le, take-append-drop, get_or-take}
+use Rattle.std.proofs.Common.{◌≡◌, ◌≢◌, ◌⊎◌, inl, inr, ℕ, suc, ◌+◌, ◌<◌, ◌≤◌, ◌==◌, true, false, List, [], ◌∷◌, ◌++◌, length, take, drop, get_or, Option, Some, None, refl, sym, ap, subst, ◌∙◌, arith, append_assoc, length-append, length-take-le, take-append-drop}
 use Rattle.std.specs.Prelude.{IfSome}
-use Rattle.std.specs.List.{prefix_len, list_all}
+use Rattle.std.specs.List.{prefix_len}
 use Rattle.std.specs.Char.{is_ascii_digit}
-use Rattle.std.specs.Str.{IsCharBoundary}
 use Rattle.std.proofs.lemmas.List.Sums.{prefix_len-le-length}
-use Rattle.std.proofs.lemmas.Str.{IsCharBoundary-after_ascii}
 use Rattle.sql_lexer.specs.declared.token.TokenKind.{TokenKind}
 use Rattle.sql_lexer.specs.declared.token.TokenKind.TheVariants.{Word, Number, Text, Symbol}
 use Rattle.sql_lexer.specs.declared.fronts.Front.{Front}
 use Rattle.sql_lexer.specs.declared.fronts.Front.TheVariants.{White, Taken, Bad, Open}
 use Rattle.sql_lexer.specs.Lexing.{is_white, is_letter, is_word_byte, is_quote, is_short_symbol, is_long_symbol, text_end, quoted, minus_front, symbol_front, front_of}
-use Rattle.sql_lexer.specs.Longest.{IsWord, AreDigits, IsNumber, IsText, IsSymbol, IsToken, NoneLonger, IsLongest, BeginsNone, IsOpen, StandsBefore}
-use Rattle.sql_lexer.proofs.Bytes.{is_from_quote, is_not_from_quote, is_from_minus, letter_no_white, digit_no_white, digit_no_letter, IsApart, short_apart, long_apart, letter_ascii, word_byte_ascii, digit_ascii, white_ascii, short_ascii, long_ascii}
+use Rattle.sql_lexer.specs.Longest.{IsWord, AreDigits, IsNumber, IsText, IsSymbol, IsToken, IsOpen, StandsBefore}
+use Rattle.sql_lexer.proofs.Bytes.{is_from_quote, is_not_from_quote, is_from_minus, letter_no_white, digit_no_white, digit_no_letter, IsApart, short_apart, long_apart}
 use Rattle.sql_lexer.proofs.Runs.{branch, chosen_first, chosen_second, one_and, two_and, all_in_run, run-append}
 use Rattle.sql_lexer.proofs.TextEnds.{past}
-use Rattle.sql_lexer.proofs.Insides.{Finds, Ended, text_end-finds, ended_text, ended_within, text_end-inside, text_end-filled}
+use Rattle.sql_lexer.proofs.Insides.{Finds, text_end-finds, ended_text, ended_within, text_end-inside, text_end-filled}
 
 -- what stands in front, without the claim that no longer front is a token
 abbrev IsFound : List ℕ → Front → Type 0

@@ -1,7 +1,6 @@
 -- The tokens of a text are slices of it, in order and apart, each the longest where it begins; and a refusal is true of its place.
-use Rattle.std.proofs.Common.{◌≡◌, ℕ, zero, suc, ◌+◌, ◌-◌, ◌<◌, ◌≤◌, true, List, [], ◌∷◌, map, length, take, drop, Result, Ok, Err, refl, sym, ap, subst, ◌∙◌, arith, length-take-le, add-zero}
+use Rattle.std.proofs.Common.{◌≡◌, ℕ, zero, suc, ◌+◌, ◌-◌, ◌<◌, true, List, [], ◌∷◌, length, take, drop, Result, Ok, Err, refl, sym, ap, subst, ◌∙◌, arith, length-take-le, add-zero}
 use Rattle.std.specs.Prelude.{All, IfOk}
-use Rattle.std.specs.List.{list_all}
 use Rattle.std.proofs.lemmas.List.{drop-drop}
 use Rattle.std.proofs.lemmas.List.Elements.{All-nil, All-cons}
 use Rattle.sql_lexer.specs.declared.token.TokenKind.{TokenKind}
@@ -10,8 +9,8 @@ use Rattle.sql_lexer.specs.declared.refusal.LexNo.{LexNo}
 use Rattle.sql_lexer.specs.declared.refusal.LexNo.TheVariants.{BadChar, OpenText, NoMemory}
 use Rattle.sql_lexer.specs.declared.fronts.Front.{Front}
 use Rattle.sql_lexer.specs.declared.fronts.Front.TheVariants.{White, Taken, Bad, Open}
-use Rattle.sql_lexer.specs.Lexing.{is_white, front_of, lexed, lexed_from, with_first, Lexeme, lexeme, Lexes}
-use Rattle.sql_lexer.specs.Longest.{IsLongest, BeginsNone, IsOpen, StandsBefore, IsLongestIn, OnlyWhite, AreLongest, TakesLongest}
+use Rattle.sql_lexer.specs.Lexing.{is_white, front_of, lexed, lexed_from, with_first, Lexeme, Lexes}
+use Rattle.sql_lexer.specs.Longest.{IsLongest, BeginsNone, IsOpen, StandsBefore, IsLongestIn, OnlyWhite, TakesLongest}
 use Rattle.sql_lexer.specs.Slices.{IsSliceOf, IsFilled, AreApart, AreSlices}
 use Rattle.sql_lexer.proofs.LongestLaws.{front_stands}
 use Rattle.sql_lexer.proofs.Cuts.{longest_cut}

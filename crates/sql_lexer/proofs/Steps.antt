@@ -1,15 +1,9 @@
 -- What stands in front decides the tokens of the rest of a text.
-use Rattle.std.proofs.Common.{◌≡◌, ℕ, zero, suc, ◌+◌, ◌-◌, ◌<◌, ◌≤◌, List, [], ◌∷◌, ◌++◌, map, length, take, drop, Result, Ok, Err, IsUtf8, refl, sym, ap, subst, ◌∙◌, arith, append_assoc, length-drop, add-zero}
-use Rattle.std.specs.Str.{IsCharBoundary}
-use Rattle.std.proofs.lemmas.List.{map_push, append-nil}
-use Rattle.std.proofs.lemmas.Str.{IsUtf8-drop}
+use Rattle.std.proofs.Common.{◌≡◌, ℕ, zero, suc, ◌+◌, ◌-◌, ◌<◌, List, [], ◌∷◌, length, take, drop, Ok, Err, refl, sym, ap, ◌∙◌, arith, add-zero}
 use Rattle.sql_lexer.specs.declared.token.TokenKind.{TokenKind}
-use Rattle.sql_lexer.specs.declared.token.Token.{Token}
-use Rattle.sql_lexer.specs.declared.refusal.LexNo.{LexNo}
 use Rattle.sql_lexer.specs.declared.refusal.LexNo.TheVariants.{BadChar, OpenText}
-use Rattle.sql_lexer.specs.declared.fronts.Front.{Front}
 use Rattle.sql_lexer.specs.declared.fronts.Front.TheVariants.{White, Taken, Bad, Open}
-use Rattle.sql_lexer.specs.Lexing.{front_of, lexed, lexed_from, with_first, Lexeme, lexeme}
+use Rattle.sql_lexer.specs.Lexing.{front_of, lexed_from, with_first}
 
 -- passing over bytes is beginning behind them
 pub lexed_from-skip : (skip at : ℕ) (bytes : List ℕ) → lexed_from skip at bytes ≡ lexed_from 0 (at + skip) (drop skip bytes)

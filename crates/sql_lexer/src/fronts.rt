@@ -6,7 +6,7 @@ ghost use Rattle.sql_lexer.specs.Lexing as lexing;
 use crate::token::TokenKind;
 
 /// What stands in front of the rest of a text.
-#[derive(Clone, Copy, Debug)]
+#[derive(Clone, Copy)]
 pub enum Front {
     /// One byte of white space.
     White,
@@ -21,7 +21,7 @@ pub enum Front {
 fn is_white(byte: u8) -> bool
     ensures { result ≡ lexing.is_white byte }
 {
-    byte == b' ' || byte == b'\t' || byte == b'\r' || byte == b'\n'
+    matches!(byte, b' ' | b'\t' | b'\r' | b'\n')
 }
 
 fn is_letter(byte: u8) -> bool
@@ -49,15 +49,10 @@ fn is_long_symbol(first: u8, second: u8) -> bool
 fn is_short_symbol(byte: u8) -> bool
     ensures { result ≡ lexing.is_short_symbol byte }
 {
-    byte == b','
-        || byte == b'.'
-        || byte == b'('
-        || byte == b')'
-        || byte == b'*'
-        || byte == b';'
-        || byte == b'='
-        || byte == b'<'
-        || byte == b'>'
+    matches!(
+        byte,
+        b',' | b'.' | b'(' | b')' | b'*' | b';' | b'=' | b'<' | b'>'
+    )
 }
 
 /// How many bytes of a word stand in front.
@@ -98,6 +93,7 @@ fn text_end(bytes: &[u8]) -> Option<usize>
     None
 }
 
+/// What stands in front where these bytes follow a `-`.
 fn minus_front(rest: &[u8]) -> Front
     ensures { result ≡ lexing.minus_front rest.now }
 {
@@ -110,6 +106,7 @@ fn minus_front(rest: &[u8]) -> Front
     }
 }
 
+/// What stands in front where these bytes follow a quote.
 fn quote_front(rest: &[u8]) -> Front
     ensures { result ≡ lexing.quoted (lexing.text_end rest.now) }
 {
@@ -119,6 +116,7 @@ fn quote_front(rest: &[u8]) -> Front
     }
 }
 
+/// The symbol in front, if there is one: two bytes before one.
 fn symbol_front(bytes: &[u8]) -> Front
     ensures { result ≡ lexing.symbol_front bytes.now }
 {

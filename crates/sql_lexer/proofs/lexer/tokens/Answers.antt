@@ -1,8 +1,8 @@
-use Rattle.std.proofs.Common.{◌≡◌, ◌<◌, length, map, Ok, Err, is_ok, refl, sym, ap, ◌∙◌, arith, false-eqb}
+use Rattle.std.proofs.Common.{Ok, Err, is_ok, refl, sym, ap, ◌∙◌, arith, false-eqb}
 use Rattle.std.proofs.ResultArms.{chosen}
 use Rattle.std.proofs.lemmas.Bool.{eqb-true}
 use Rattle.sql_lexer.specs.declared.refusal.LexNo.TheVariants.{BadChar, OpenText}
-use Rattle.sql_lexer.specs.Lexing.{front_of, lexeme}
+use Rattle.sql_lexer.specs.Lexing.{front_of}
 use Rattle.sql_lexer.proofs.Turns.{next-start, cut-white, next-white, cut-taken, next-taken, passes, next-bad, next-open, next-end}
 use Rattle.sql_lexer.proofs.SliceLaws.{lexed-slices, lexed-longest}
 use Rattle.sql_lexer.proofs.lexer.tokens.Goals as goal
