@@ -26,13 +26,13 @@ pub record ReadsOn (schema : Schema) (table : TableId) (tokens : List Token) (at
   pub whole : columns_from schema table 0 (map lexeme tokens) ≡ joined found (columns_from schema table at (map lexeme (drop at tokens)))
 
 -- what a query of one table asks for, by its parts
-abbrev pub asked_parts : Lexeme → Lexeme → Lexeme → List Lexeme → Option Asked
+abbrev asked_parts : Lexeme → Lexeme → Lexeme → List Lexeme → Option Asked
 asked_parts select from table list =
     cond (is_keyword (codes "SELECT") select && is_keyword (codes "FROM") from && is_word table && is_select_list list)
     (Some (record { columns = names_from 0 list; table = table.text })) None
 
 -- three tokens or more ask for what their parts do, where d stands for a token that is not there
-pub asked-parts : (tokens : List Token) (d : Token) → 3 ≤ length tokens
+asked-parts : (tokens : List Token) (d : Token) → 3 ≤ length tokens
     → asked_of (map lexeme tokens)
     ≡ asked_parts (lexeme (get_or tokens 0 d)) (lexeme (get_or tokens (length tokens - 2) d)) (lexeme (get_or tokens (length tokens - 1) d))
     (map lexeme (take (length tokens - 2 - 1) (drop 1 tokens)))
@@ -44,7 +44,7 @@ asked-parts tokens d long =
     simp (length-map, slice_get-map, drop-map, take-map, slice_get-get_or tokens 0 d first, slice_get-get_or tokens (length tokens - 2) d second, slice_get-get_or tokens (length tokens - 1) d last)
 
 -- fewer than three tokens ask for nothing
-pub asked-few : (tokens : List Token) → length tokens < 3 → asked_of (map lexeme tokens) ≡ None
+asked-few : (tokens : List Token) → length tokens < 3 → asked_of (map lexeme tokens) ≡ None
 unfolding asked_of
 asked-few [] few = refl
 asked-few (x ∷ []) few = simp and-false

@@ -1,6 +1,5 @@
 ghost use Rattle.std.specs.Prelude.{◌≡◌, ◌≤◌, length, map, IfOk};
 ghost use Rattle.sql_lexer.specs.Lexing.{lexeme};
-ghost use Rattle.selection_reader.specs.Asking.{asked_of};
 ghost use Rattle.selection_reader.specs.Binding.{Answers, IsSelectionOf, column_in, columns_in, selected_by, selection_of};
 
 use crate::places::{column_named, table_named};

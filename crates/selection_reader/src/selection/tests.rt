@@ -57,22 +57,22 @@ fn told(alloc: Global, query: &[u8], schema: &Schema) -> Result<String, Fail>
     Ok(line)
 }
 
-const QUERIES: [(&[u8], &str); 15] = [
-    (b"select a from r", "table 0, columns 0"),
-    (b"SELECT b , a FROM r", "table 0, columns 1 0"),
-    (b"sElEcT a,a,b fRoM r\n", "table 0, columns 0 0 1"),
-    (b"\tselect\ta\tfrom\tr", "table 0, columns 0"),
-    (b"select a,\r\nb\r\nfrom r\r\n", "table 0, columns 0 1"),
-    (b"select c from s", "table 1, columns 2"),
-    (b"", "no query of one table"),
-    (b"select a from r;", "no query of one table"),
-    (b"select a, from r", "no query of one table"),
-    (b"select from r", "no query of one table"),
-    (b"select a from z", "no query of one table"),
-    (b"select z from r", "no query of one table"),
-    (b"select a from r r", "no query of one table"),
-    (b"select a b from r", "no query of one table"),
-    (b"select c from r", "no query of one table"),
+const QUERIES: [(&str, &str); 15] = [
+    ("select a from r", "table 0, columns 0"),
+    ("SELECT b , a FROM r", "table 0, columns 1 0"),
+    ("sElEcT a,a,b fRoM r\n", "table 0, columns 0 0 1"),
+    ("\tselect\ta\tfrom\tr", "table 0, columns 0"),
+    ("select a,\r\nb\r\nfrom r\r\n", "table 0, columns 0 1"),
+    ("select c from s", "table 1, columns 2"),
+    ("", "no query of one table"),
+    ("select a from r;", "no query of one table"),
+    ("select a, from r", "no query of one table"),
+    ("select from r", "no query of one table"),
+    ("select a from z", "no query of one table"),
+    ("select z from r", "no query of one table"),
+    ("select a from r r", "no query of one table"),
+    ("select a b from r", "no query of one table"),
+    ("select c from r", "no query of one table"),
 ];
 
 #[test]
@@ -80,7 +80,7 @@ fn a_query_of_one_table_selects_its_columns(rt: HostRuntime) -> Result<(), Fail>
     let schema = schema(rt.alloc())?;
     for (query, want) in QUERIES {
         assert!(rt; query.len() < 100);
-        let line = told(rt.alloc(), query, &schema)?;
+        let line = told(rt.alloc(), query.as_bytes(), &schema)?;
         assert_eq!(rt; line.as_str(), want, "of {query:?}");
     }
     let no_text = told(rt.alloc(), b"select a from r \xff", &schema)?;
