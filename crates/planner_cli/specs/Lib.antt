@@ -1,0 +1,11 @@
+pub mod Status
+pub mod Words
+pub mod Commands
+pub mod PlanLine
+pub mod Answer
+pub mod CsvWriting
+pub mod Input
+pub mod Report
+pub mod Loading
+pub mod Reading
+pub mod Run

@@ -1,0 +1,11 @@
+use mq_base::PlainTable;
+use policy_reader::Policy;
+use selection_reader::Selection;
+
+// What the accepted files of a command stand for.
+#[derive(Drop)]
+pub struct Job {
+    pub policy: Policy,
+    pub selection: Selection,
+    pub table: PlainTable,
+}

@@ -1,0 +1,16 @@
+//! The top call: words, files and a sink in, a status and a report out. It stands on every other crate, and
+//! its contract is the promise of the whole.
+#![tactic(auto)]
+
+mod answer;
+mod csv_text;
+mod files;
+mod job;
+mod perform;
+mod plan_line;
+mod report;
+mod status;
+mod words;
+
+pub use perform::run;
+pub use status::{FileRole, InputFault, Status};

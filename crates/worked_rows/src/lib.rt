@@ -1,0 +1,5 @@
+//! The worked rows as tests of the top call, over shelves and sinks in memory. There is no code here.
+#![tactic(auto)]
+
+#[cfg(test)]
+mod tests;
