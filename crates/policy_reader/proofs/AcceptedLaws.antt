@@ -1,12 +1,11 @@
 -- What holds of lists without a fault, and of the policy that they stand for.
-use Rattle.std.proofs.Common.{◌≡◌, ℕ, ◌+◌, ◌<◌, ◌≤◌, List, length, Bool, true, false, Option, Some, None, is_some, bytes_eq, refl, sym, ◌∙◌, ap, arith}
-use Rattle.std.specs.Prelude.{nat_lt, slice_get, position, unwrap_or, IfSome, if◌then◌else◌}
+use Rattle.std.proofs.Common.{◌≡◌, ℕ, ◌<◌, ◌≤◌, List, length, Bool, true, false, Option, Some, None, is_some, bytes_eq, refl, sym, ◌∙◌, arith}
+use Rattle.std.specs.Prelude.{slice_get, position, unwrap_or, IfSome, if◌then◌else◌}
 use Rattle.std.proofs.lemmas.Bool.Decides.{nat_tests}
 use Rattle.std.proofs.lemmas.List.Quantifiers.{position-Some}
 use Rattle.std.proofs.lemmas.Option.{slice_get_within}
 use Rattle.base_laws.specs.Firsts.{or_else, first_at}
 use Rattle.base_laws.proofs.FirstLaws.{first_at-none}
-use Rattle.policy_reader.specs.declared.fault.Fault.{Fault}
 use Rattle.policy_reader.specs.declared.raw.RawTable.{RawTable}
 use Rattle.policy_reader.specs.declared.raw.RawPolicy.{RawPolicy}
 use Rattle.policy_reader.specs.declared.refusal.PolicyCode.{PolicyCode}

@@ -1,13 +1,13 @@
 -- Laws of the policy's value: how far a list of tables, of columns, and of sets has been made.
-use Rattle.std.proofs.Common.{◌≡◌, ℕ, zero, suc, ◌+◌, ◌-◌, ◌<◌, ◌≤◌, List, [], ◌∷◌, ◌++◌, length, get_or, take, drop, map, replicate, set, refl, sym, ◌∙◌, ap, arith, add-one, append_assoc}
+use Rattle.std.proofs.Common.{◌≡◌, ℕ, suc, ◌+◌, ◌-◌, ◌<◌, ◌≤◌, List, [], ◌∷◌, ◌++◌, length, get_or, take, drop, map, replicate, set, refl, ◌∙◌, ap, arith, add-one, append_assoc}
 use Rattle.std.proofs.lemmas.List.{drop_more, drop_all, append-nil, length-map, length-take, map_more, set_at}
 use Rattle.std.proofs.Math.Seq.{take-length}
 use Rattle.mq_base.specs.declared.attr_set.AttrSet.{AttrSet}
 use Rattle.mq_base.specs.declared.schema.AttrInfo.{AttrInfo}
 use Rattle.mq_base.specs.declared.schema.TableInfo.{TableInfo}
 use Rattle.policy_reader.specs.declared.raw.RawTable.{RawTable}
-use Rattle.policy_reader.specs.Grants.{set_of, ids}
-use Rattle.policy_reader.specs.Outcome.{subject_id, table_info, tables_from, column_info, columns_from, sixteen}
+use Rattle.policy_reader.specs.Grants.{set_of}
+use Rattle.policy_reader.specs.Outcome.{table_info, tables_from, column_info, columns_from, sixteen}
 
 -- past a table
 pub tables_from-more : (subjects : List (List ℕ)) (done : List TableInfo) (first : ℕ) (tables : List RawTable) (t : ℕ) (d : RawTable)

@@ -1,14 +1,11 @@
 -- Laws of grants: where the ids of a table's columns begin, and the set of one column.
-use Rattle.std.proofs.Common.{◌≡◌, ℕ, zero, suc, ◌+◌, ◌-◌, ◌^◌, ◌<◌, ◌≤◌, List, [], ◌∷◌, ◌++◌, length, get_or, take, drop, Option, Some, None, refl, sym, ◌∙◌, ap, arith, bit_or, add-one}
-use Rattle.std.specs.Prelude.{position}
-use Rattle.std.specs.List.{sum_by}
+use Rattle.std.proofs.Common.{◌≡◌, ℕ, ◌+◌, ◌^◌, ◌<◌, ◌≤◌, List, length, get_or}
 use Rattle.std.proofs.lemmas.List.Sums.{sum_by-take-le, sum_by_more_le}
 use Rattle.std.specs.Int.Bits.{or_zero_l}
 use Rattle.base_laws.specs.Sets.{with_member}
-use Rattle.policy_reader.specs.declared.raw.RawColumn.{RawColumn}
 use Rattle.policy_reader.specs.declared.raw.RawTable.{RawTable}
-use Rattle.policy_reader.specs.Faults.{is_column, column_count}
-use Rattle.policy_reader.specs.Grants.{first_id, single, named}
+use Rattle.policy_reader.specs.Faults.{column_count}
+use Rattle.policy_reader.specs.Grants.{first_id}
 use Rattle.policy_reader.proofs.RuleLaws.{column_below}
 
 -- the columns of the first tables are no more than those of all

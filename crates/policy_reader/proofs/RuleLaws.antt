@@ -1,7 +1,7 @@
 -- Laws of the tests of a rule: what a table that was found has, and the strings of `plain` as a set of columns.
-use Rattle.std.proofs.Common.{◌≡◌, ◌≢◌, ℕ, zero, suc, ◌+◌, ◌^◌, ◌<◌, ◌≤◌, Bool, true, false, cond, ◌||◌, List, [], ◌∷◌, length, get_or, take, Option, Some, None, is_some, refl, sym, ◌∙◌, ap, arith, rules, find, bytes_eq, zero-add, add-one, ◌⊎◌, inl, inr}
-use Rattle.std.specs.Prelude.{slice_get, position, Decides}
-use Rattle.std.specs.List.{list_any, position_from, sum_by}
+use Rattle.std.proofs.Common.{◌≡◌, ◌≢◌, ℕ, zero, suc, ◌+◌, ◌^◌, ◌<◌, ◌≤◌, Bool, true, false, cond, ◌||◌, List, [], ◌∷◌, length, get_or, take, Option, Some, None, is_some, refl, sym, ◌∙◌, ap, arith, find, bytes_eq, zero-add, add-one}
+use Rattle.std.specs.Prelude.{position, Decides}
+use Rattle.std.specs.List.{list_any, position_from}
 use Rattle.std.proofs.lemmas.List.Sums.{sum_by-cons}
 use Rattle.std.proofs.lemmas.List.Folds.{list_any_more}
 use Rattle.std.proofs.lemmas.List.Quantifiers.{position-Some}

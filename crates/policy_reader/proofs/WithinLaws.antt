@@ -1,13 +1,11 @@
 -- What a subject may see are attributes of the policy: each set has only ids below the number of columns.
-use Rattle.std.proofs.Common.{◌≡◌, ◌≢◌, ℕ, zero, suc, ◌+◌, ◌-◌, ◌^◌, ◌<◌, ◌≤◌, Bool, true, false, ◌||◌, List, [], ◌∷◌, ◌++◌, length, get_or, map, replicate, Option, Some, None, refl, sym, ◌∙◌, ap, arith, bit_or, find, bytes_eq, ◌⊎◌, inl, inr}
+use Rattle.std.proofs.Common.{◌≡◌, ◌≢◌, ℕ, zero, suc, ◌+◌, ◌-◌, ◌^◌, ◌<◌, ◌≤◌, Bool, true, false, ◌||◌, List, [], ◌∷◌, ◌++◌, length, get_or, map, replicate, Option, Some, None, refl, sym, ◌∙◌, ap, arith, bit_or, bytes_eq, ◌⊎◌, inl, inr}
 use Rattle.std.specs.Prelude.{slice_get, position, if◌then◌else◌}
 use Rattle.std.specs.Option.{option_or, option_map_or}
-use Rattle.std.proofs.lemmas.List.Quantifiers.{position-Some}
 use Rattle.std.proofs.lemmas.Option.{slice_get_within, get_or_from_slice_get}
 use Rattle.base_laws.specs.Sets.{has}
 use Rattle.base_laws.specs.Folds.{union_to}
 use Rattle.base_laws.proofs.SetLaws.{has-bit_or, has-single_same, has-single_other, has-empty, has-union_to}
-use Rattle.mq_base.specs.declared.attr_set.AttrSet.{AttrSet}
 use Rattle.policy_reader.specs.declared.grants.Grant.{Grant}
 use Rattle.policy_reader.specs.declared.raw.RawColumn.{RawColumn}
 use Rattle.policy_reader.specs.declared.raw.RawTable.{RawTable}

@@ -4,7 +4,6 @@ use Rattle.std.specs.Option.{option_map_or}
 use Rattle.std.specs.Str.{IsUtf8}
 use Rattle.base_laws.specs.Sets.{has}
 use Rattle.mq_base.specs.declared.attr_set.AttrSet.{AttrSet}
-use Rattle.mq_base.specs.declared.schema.TableInfo.{TableInfo}
 use Rattle.mq_base.specs.Schema.{IsSchema}
 use Rattle.policy_reader.specs.declared.policy.Policy.{Policy}
 

@@ -1,5 +1,5 @@
 -- What each subject may see: the grants of a policy. docs/MODEL.md, "Grants", tells it in prose.
-use Rattle.std.specs.Prelude.{◌≡◌, ℕ, ◌+◌, ◌^◌, List, length, take, Option, Some, None, bit_or, slice_get, option_map, find, position, bytes_eq, if◌then◌else◌}
+use Rattle.std.specs.Prelude.{ℕ, ◌+◌, ◌^◌, List, length, take, Option, Some, None, slice_get, find, position, bytes_eq, if◌then◌else◌}
 use Rattle.std.specs.Option.{option_or, option_map_or}
 use Rattle.base_laws.specs.Folds.{union_to}
 use Rattle.mq_base.specs.declared.attr_set.AttrSet.{AttrSet}

@@ -9,11 +9,9 @@ use Rattle.toml.specs.View.{table_view}
 use Rattle.toml.specs.declared.value.Value.{Value}
 use Rattle.toml.specs.Parse.{parse_document}
 use Rattle.mq_base.specs.declared.ids.SubjectId.{SubjectId}
-use Rattle.mq_base.specs.declared.ids.TableId.{TableId}
 use Rattle.mq_base.specs.declared.attr_set.AttrSet.{AttrSet}
 use Rattle.mq_base.specs.declared.schema.AttrInfo.{AttrInfo}
 use Rattle.mq_base.specs.declared.schema.TableInfo.{TableInfo}
-use Rattle.mq_base.specs.declared.schema.Schema.{Schema}
 use Rattle.policy_reader.specs.declared.fault.Fault.{Fault}
 use Rattle.policy_reader.specs.declared.policy.Policy.{Policy}
 use Rattle.policy_reader.specs.declared.raw.RawColumn.{RawColumn}

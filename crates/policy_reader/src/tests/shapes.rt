@@ -1,4 +1,7 @@
 use super::refusal;
+use crate::{PolicyCode, PolicyNo};
+use std::alloc::{AllocError, Global};
+use std::test::Fail;
 
 const SYNTAX: (u16, u64, u64) = (1, 0, 0);
 
@@ -6,105 +9,77 @@ const SHAPE: (u16, u64, u64) = (2, 0, 0);
 
 const ACCEPTED: (u16, u64, u64) = (0, 0, 0);
 
+const FILE: &str =
+    "version = 1\nuser = 'U'\nsubjects = ['U']\nrule = [{table = 'r', subject = 'any', plain = ['a'], sealed = []}]\n\
+    [[table]]\nname = 'r'\nowner = 'U'\ncolumns = [{name = 'a', type = 'INT'}]\n";
+
+/// The file with another text where one stands for the first time.
+fn changed(alloc: Global, old: &str, new: &str) -> Result<String, AllocError> {
+    match FILE.split_once(old) {
+        Some((front, rest)) => format!(in alloc; "{front}{new}{rest}"),
+        None => String::from_str(alloc, FILE),
+    }
+}
+
+/// A change of an accepted file, and its refusal.
 #[test]
-fn tells_the_form(rt: HostRuntime) {
+fn tells_the_form(rt: HostRuntime) -> Result<(), Fail> {
     let alloc = rt.alloc();
-    assert_eq!(rt; refusal(alloc, b"user = '\xff'"), SYNTAX);
-    for (text, want) in [
-        ("version =\n", SYNTAX),
-        ("version = 1\nversion = 1", SYNTAX),
-        ("version = 9223372036854775808", SYNTAX),
-        ("", SHAPE),
+    for (old, new, want) in [
+        ("version = 1", "version =", SYNTAX),
+        ("user = 'U'", "version = 1", SYNTAX),
+        ("version = 1", "version = 9223372036854775808", SYNTAX),
+        ("version = 1", "version = 2", SHAPE),
+        ("version = 1", "version = '1'", SHAPE),
+        ("version = 1", "version = 1.0", SHAPE),
+        ("version = 1", "", SHAPE),
+        ("version = 1", "version = 1\nnote = 1", SHAPE),
+        ("user = 'U'", "", SHAPE),
+        ("user = 'U'", "user = 1", SHAPE),
+        ("subjects = ['U']", "", SHAPE),
+        ("subjects = ['U']", "subjects = []", SHAPE),
+        ("subjects = ['U']", "subjects = 'U'", SHAPE),
+        ("subjects = ['U']", "subjects = ['U', 1]", SHAPE),
+        ("[[table]]", "[table]", SHAPE),
+        ("[[table]]", "[[rules]]", SHAPE),
+        ("name = 'r'", "", SHAPE),
+        ("owner = 'U'", "", SHAPE),
+        ("owner = 'U'", "owner = 'U'\nstore = 'U'", SHAPE),
+        ("columns = [{name = 'a', type = 'INT'}]", "", SHAPE),
         (
-            "version = 2\nuser = 'U'\nsubjects = ['U']\n[[table]]\nname = 'r'\nowner = 'U'\ncolumns = [{name = 'a', type = 'INT'}]",
+            "columns = [{name = 'a', type = 'INT'}]",
+            "columns = []",
             SHAPE,
         ),
+        ("type = 'INT'", "type = 'int'", SHAPE),
+        ("type = 'INT'", "type = 'INT', ceiling = 'none'", SHAPE),
+        (", type = 'INT'", "", SHAPE),
+        ("rule = [{", "rule = [1, {", SHAPE),
+        ("table = 'r', ", "", SHAPE),
+        ("subject = 'any', ", "", SHAPE),
+        ("plain = ['a']", "plain = 'a'", SHAPE),
+        ("sealed = []", "sealed = ['b', 1]", SHAPE),
+        ("sealed = []", "sealed = [], rest = []", SHAPE),
+        ("", "", ACCEPTED),
+        ("plain = ['a'], ", "", ACCEPTED),
+        (", sealed = []", "", ACCEPTED),
         (
-            "version = '1'\nuser = 'U'\nsubjects = ['U']\n[[table]]\nname = 'r'\nowner = 'U'\ncolumns = [{name = 'a', type = 'INT'}]",
-            SHAPE,
-        ),
-        (
-            "user = 'U'\nsubjects = ['U']\n[[table]]\nname = 'r'\nowner = 'U'\ncolumns = [{name = 'a', type = 'INT'}]",
-            SHAPE,
-        ),
-        (
-            "version = 1\nuser = 1\nsubjects = ['U']\n[[table]]\nname = 'r'\nowner = 'U'\ncolumns = [{name = 'a', type = 'INT'}]",
-            SHAPE,
-        ),
-        (
-            "version = 1\nsubjects = ['U']\n[[table]]\nname = 'r'\nowner = 'U'\ncolumns = [{name = 'a', type = 'INT'}]",
-            SHAPE,
-        ),
-        (
-            "version = 1\nuser = 'U'\nsubjects = []\n[[table]]\nname = 'r'\nowner = 'U'\ncolumns = [{name = 'a', type = 'INT'}]",
-            SHAPE,
-        ),
-        (
-            "version = 1\nuser = 'U'\nsubjects = ['U', 1]\n[[table]]\nname = 'r'\nowner = 'U'\ncolumns = [{name = 'a', type = 'INT'}]",
-            SHAPE,
-        ),
-        ("version = 1\nuser = 'U'\nsubjects = ['U']", SHAPE),
-        (
-            "version = 1\nuser = 'U'\nsubjects = ['U']\ntable = []",
-            SHAPE,
-        ),
-        (
-            "version = 1\nuser = 'U'\nsubjects = ['U']\n[table]\nname = 'r'\nowner = 'U'\ncolumns = [{name = 'a', type = 'INT'}]",
-            SHAPE,
-        ),
-        (
-            "version = 1\nuser = 'U'\nsubjects = ['U']\n[[table]]\nname = 'r'\nowner = 'U'\ncolumns = []",
-            SHAPE,
-        ),
-        (
-            "version = 1\nuser = 'U'\nsubjects = ['U']\n[[table]]\nname = 'r'\nowner = 'U'\nstore = 'U'\ncolumns = [{name = 'a', type = 'INT'}]",
-            SHAPE,
-        ),
-        (
-            "version = 1\nuser = 'U'\nsubjects = ['U']\n[[table]]\nname = 'r'\nowner = 'U'\ncolumns = [{name = 'a', type = 'int'}]",
-            SHAPE,
-        ),
-        (
-            "version = 1\nuser = 'U'\nsubjects = ['U']\n[[table]]\nname = 'r'\nowner = 'U'\ncolumns = [{name = 'a'}]",
-            SHAPE,
-        ),
-        (
-            "version = 1\nuser = 'U'\nsubjects = ['U']\n[[table]]\nname = 'r'\nowner = 'U'\ncolumns = [{name = 'a', type = 'INT', ceiling = 'none'}]",
-            SHAPE,
-        ),
-        (
-            "version = 1\nuser = 'U'\nsubjects = ['U']\nnote = 1\n[[table]]\nname = 'r'\nowner = 'U'\ncolumns = [{name = 'a', type = 'INT'}]",
-            SHAPE,
-        ),
-        (
-            "version = 1\nuser = 'U'\nsubjects = ['U']\nrule = 1\n[[table]]\nname = 'r'\nowner = 'U'\ncolumns = [{name = 'a', type = 'INT'}]",
-            SHAPE,
-        ),
-        (
-            "version = 1\nuser = 'U'\nsubjects = ['U']\nrule = [{table = 'r'}]\n[[table]]\nname = 'r'\nowner = 'U'\ncolumns = [{name = 'a', type = 'INT'}]",
-            SHAPE,
-        ),
-        (
-            "version = 1\nuser = '1'\nsubjects = ['U']\nrule = [{table = 'r', subject = 'U', plain = 'a'}]\n[[table]]\nname = 'r'\nowner = 'U'\ncolumns = [{name = 'a', type = 'INT'}]",
-            SHAPE,
-        ),
-        (
-            "version = 1\nuser = 'U'\nsubjects = ['U']\nrule = [{table = 'r', subject = 'U', sealed = ['a', 1]}]\n[[table]]\nname = 'r'\nowner = 'U'\ncolumns = [{name = 'a', type = 'INT'}]",
-            SHAPE,
-        ),
-        (
-            "version = 1\nuser = 'U'\nsubjects = ['U']\nrule = [{table = 'r', subject = 'any', all = 1}]\n[[table]]\nname = 'r'\nowner = 'U'\ncolumns = [{name = 'a', type = 'INT'}]",
-            SHAPE,
-        ),
-        (
-            "version = 1\nuser = 'U'\nsubjects = ['U']\n[[table]]\nname = 'r'\nowner = 'U'\ncolumns = [{name = 'a', type = 'INT'}]",
-            ACCEPTED,
-        ),
-        (
-            "version = 1\nuser = 'U'\nsubjects = ['U']\nrule = [{table = 'r', subject = 'any'}]\n[[table]]\nname = 'r'\nowner = 'U'\ncolumns = [{name = 'a', type = 'INT'}]",
+            "rule = [{table = 'r', subject = 'any', plain = ['a'], sealed = []}]",
+            "",
             ACCEPTED,
         ),
     ] {
+        let text = changed(alloc, old, new)?;
         assert_eq!(rt; refusal(alloc, text.as_bytes()), want, "{text}");
     }
+    assert_eq!(rt; refusal(alloc, b""), SHAPE);
+    assert_eq!(rt; refusal(alloc, b"user = '\xff'"), SYNTAX);
+    let no = PolicyNo::Refused {
+        code: PolicyCode::Overlap,
+        at: 1,
+        item: 2,
+    };
+    let message = format!(in alloc; "{no}")?;
+    assert_eq!(rt; message.as_str(), "policy refused: code 9 at 1 item 2");
+    Ok(())
 }
