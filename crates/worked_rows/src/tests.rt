@@ -1,11 +1,13 @@
-ghost use Rattle.std.specs.Prelude.{IfOk};
+ghost use Rattle.std.specs.Prelude.{◌≤◌, IfOk, IfSome};
 ghost use Rattle.outside_io.specs.Outside.{HasDistinctNames};
 
 use mq_base::{NoMemory, Seq, TableId, Text};
 use outside_io::{MemoryShelf, MemorySink};
 use planner_cli::{FileRole, InputFault, Status, run};
+use policy_reader::read_policy;
 use std::alloc::Global;
 use std::test::Fail;
+use table_reader::read_table;
 
 // The policy of the first row: O owns r(a INT, b TEXT), and U may see what the end says.
 const FRONT: &str =
@@ -277,6 +279,65 @@ fn failing_puts_leave_a_front(rt: HostRuntime) -> Result<(), Fail> {
             REPORT.as_bytes().get(..written),
             "{call} {kept}"
         );
+    }
+    Ok(())
+}
+
+// A caller of the two readers that knows their public names and clauses alone: the rows of a policy's first table.
+fn rows_of_first_table(alloc: Global, policy: &[u8], table: &[u8]) -> Option<u64>
+    ensures { IfSome result (λ rows. rows ≤ 100000) }
+{
+    let Ok(policy) = read_policy(alloc, policy) else {
+        return None;
+    };
+    let Ok(content) = read_table(alloc, table, &policy.schema, TableId(0)) else {
+        return None;
+    };
+    Some(content.rows)
+}
+
+#[test]
+fn a_caller_reads_a_policy_and_a_table(rt: HostRuntime) -> Result<(), Fail> {
+    let alloc = rt.alloc();
+    assert_eq!(rt;
+        rows_of_first_table(alloc, OWNED.as_bytes(), ROWS.as_bytes()),
+        Some(3)
+    );
+    assert_eq!(rt;
+        rows_of_first_table(alloc, OWNED.as_bytes(), b"a,c\n"),
+        None
+    );
+    Ok(())
+}
+
+// Each status has its number and its line.
+#[test]
+fn statuses_have_their_lines(rt: HostRuntime) -> Result<(), Fail> {
+    let rows = [
+        (Status::Done, 0, "done"),
+        (Status::NoPlan, 1, "no authorised plan"),
+        (Status::Words, 2, "words"),
+        (
+            refused(FileRole::Table(TableId(7)), 2, 5, 1),
+            3,
+            "input table 7 code 2 at 5 item 1",
+        ),
+        (
+            refused(FileRole::Prices, 0, 0, 0),
+            3,
+            "input prices code 0 at 0 item 0",
+        ),
+        (
+            Status::ReadFault(FileRole::Cert),
+            4,
+            "read fault certificate",
+        ),
+        (Status::WriteFault, 5, "write fault"),
+        (Status::NoMemory, 9, "no memory"),
+    ];
+    for (status, number, line) in rows {
+        assert_eq!(rt; status.number(), number, "{line}");
+        assert_eq!(rt; status.to_string(rt.alloc())?.as_str(), line);
     }
     Ok(())
 }
