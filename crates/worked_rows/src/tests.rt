@@ -16,6 +16,9 @@ const FRONT: &str =
 const OWNED: &str =
     "version = 1\nuser = \"O\"\nsubjects = [\"O\", \"U\"]\n[[table]]\nname = \"r\"\nowner = \"O\"\ncolumns = [{ name = \"a\", type = \"INT\" }, { name = \"b\", type = \"TEXT\" }]\n";
 
+const TABLE_OF_O: &str =
+    "[[table]]\nname = \"r\"\nowner = \"O\"\ncolumns = [{ name = \"a\", type = \"INT\" }]\n";
+
 const PLAIN_A: &str = "plain = [\"a\"]\nsealed = []\n";
 
 const SEALED_B: &str = "plain = [\"a\"]\nsealed = [\"b\"]\n";
@@ -157,6 +160,77 @@ fn rows_give_their_reports(rt: HostRuntime) -> Result<(), Fail> {
         let status = run(alloc, given.as_slice(), &mut shelf, &mut sink);
         assert_eq!(rt; status, want, "{query}");
         assert_eq!(rt; sink.written(), written.as_bytes(), "{query}");
+    }
+    Ok(())
+}
+
+// Each row has a policy that is refused, and the code with its places; nothing else is looked at.
+#[test]
+fn policies_are_refused(rt: HostRuntime) -> Result<(), Fail> {
+    let alloc = rt.alloc();
+    let given = words(alloc, &RUN)?;
+    let rows = [
+        (("version =", ""), (1, 0, 0)),
+        (
+            (
+                "version = 1\nuser = \"U\"\nsubjects = [\"O\", \"U\", \"any\"]\n",
+                TABLE_OF_O,
+            ),
+            (3, 2, 0),
+        ),
+        (
+            (
+                "version = 1\nuser = \"U\"\nsubjects = [\"U\"]\n",
+                TABLE_OF_O,
+            ),
+            (5, 0, 0),
+        ),
+        (
+            (
+                "version = 1\nuser = \"O\"\nsubjects = [\"O\"]\n",
+                "[[table]]\nname = \"r\"\nowner = \"O\"\ncolumns = [{ name = \"a\", type = \"INT\" }]\n[[table]]\nname = \"s\"\nowner = \"P\"\ncolumns = [{ name = \"b\", type = \"INT\" }]\n",
+            ),
+            (5, 1, 0),
+        ),
+        (
+            (FRONT, "[[rule]]\ntable = \"z\"\nsubject = \"U\"\n"),
+            (7, 1, 0),
+        ),
+        ((FRONT, "plain = [\"z\"]\n"), (8, 0, 0)),
+        (
+            (FRONT, "plain = [\"a\"]\nsealed = [\"b\", \"a\"]\n"),
+            (9, 0, 2),
+        ),
+        (
+            (FRONT, "[[rule]]\ntable = \"r\"\nsubject = \"O\"\n"),
+            (10, 1, 0),
+        ),
+        (
+            (OWNED, "[[rule]]\ntable = \"r\"\nsubject = \"O\"\n"),
+            (10, 0, 0),
+        ),
+        (
+            (FRONT, "[[rule]]\ntable = \"r\"\nsubject = \"U\"\n"),
+            (11, 1, 0),
+        ),
+        (
+            (
+                FRONT,
+                "[[rule]]\ntable = \"r\"\nsubject = \"any\"\n[[rule]]\ntable = \"r\"\nsubject = \"any\"\n",
+            ),
+            (11, 2, 0),
+        ),
+    ];
+    for (policy, (code, at, item)) in rows {
+        let mut shelf = MemoryShelf::of(files(alloc, policy, "", "")?, Seq::new(alloc));
+        let mut sink = MemorySink::of(alloc, Seq::new(alloc));
+        let status = run(alloc, given.as_slice(), &mut shelf, &mut sink);
+        assert_eq!(rt;
+            status,
+            refused(FileRole::Policy, code, at, item),
+            "{code} {at}"
+        );
+        assert_eq!(rt; sink.written().len(), 0, "{code} {at}");
     }
     Ok(())
 }
