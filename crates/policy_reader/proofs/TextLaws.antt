@@ -1,20 +1,20 @@
 -- The names of an accepted policy are text.
-use Rattle.std.proofs.Common.{◌≡◌, ℕ, zero, suc, ◌+◌, ◌<◌, ◌≤◌, Bool, true, false, ◌&&◌, ◌||◌, not, List, [], ◌∷◌, ◌++◌, length, take, map, Option, Some, None, refl, sym, ◌∙◌, ap, arith}
-use Rattle.std.specs.Prelude.{IfSome, slice_get, nat_le, nat_lt}
+use Rattle.std.proofs.Common.{◌≡◌, ℕ, zero, suc, ◌+◌, ◌<◌, Bool, true, false, ◌&&◌, List, [], ◌∷◌, length, Option, Some, None, refl, arith}
+use Rattle.std.specs.Prelude.{IfSome, slice_get, nat_le}
 use Rattle.std.specs.List.{list_all}
 use Rattle.std.specs.Str.{IsUtf8, IsAscii}
-use Rattle.std.specs.Int.{is_in_range}
 use Rattle.std.proofs.lemmas.Bool.Decides.{nat_tests}
 use Rattle.std.proofs.lemmas.Str.{IsUtf8-from_ascii}
 use Rattle.std.proofs.lemmas.Str.Ascii.{IsAscii-nil, IsAscii-cons}
-use Rattle.std.proofs.lemmas.Option.{slice_get_cases, slice_get_within}
+use Rattle.std.proofs.lemmas.Option.{slice_get_within}
 use Rattle.base_laws.specs.Firsts.{or_else, first_at}
 use Rattle.base_laws.proofs.FirstLaws.{first_at-none}
 use Rattle.policy_reader.specs.declared.fault.Fault.{Fault}
 use Rattle.policy_reader.specs.declared.raw.RawTable.{RawTable}
-use Rattle.policy_reader.specs.Names.{is_first, is_later, is_word, is_keyword, is_name, is_subject_name}
+use Rattle.policy_reader.specs.Names.{is_name, is_subject_name}
 use Rattle.policy_reader.specs.Outcome.{tables_from}
 use Rattle.policy_reader.specs.Faults.{name_fault, subject_fault, table_fault, table_names_fault, names_fault, fault}
+use Rattle.word_forms.specs.Words.{is_first, is_later, is_word}
 
 first_ascii : (b : ℕ) → is_first b ≡ true → b < 128
 first_ascii b first = grind (arith, nat_tests)

@@ -19,7 +19,7 @@ use Rattle.mq_base.specs.Value.{IsCell}
 use Rattle.table_reader.specs.declared.refusal.TableNo.TheVariants.{BadInt, TextTooLong, TooManyRows}
 use Rattle.table_reader.specs.Content.{cell_value, column_of, columns_from, content_of}
 use Rattle.table_reader.specs.Faults.{cell_fault, count_fault, field_fault, field_in, length_fault, record_fault, row_fault, rows_fault, type_at, types_of}
-use Rattle.table_reader.specs.Number.{cell_number, fits_64_bits, int_of, within_64_bits}
+use Rattle.word_forms.specs.Integers.{fits_64_bits, int_of, integer_of, within_64_bits}
 use Rattle.table_reader.specs.Records.{Fields}
 
 -- two tests of which neither finds a fault
@@ -66,14 +66,14 @@ found_fits : (number : Option ℤ) (z : ℤ) → option_and_then within_64_bits 
 found_fits None z found = cc
 found_fits (Some y) z found = kept_fits y z found
 
-number_is_cell : (field : List ℕ) (number : Option ℤ) → cell_number field ≡ number → is_some number ≡ true
+number_is_cell : (field : List ℕ) (number : Option ℤ) → integer_of field ≡ number → is_some number ≡ true
     → IsCell type.Int (value.Int (unwrap_or number (pos 0)))
 number_is_cell field None is some = cc
 number_is_cell field (Some z) is some = number_fits z (found_fits (int_of field) z is)
 
 -- the value of a field without a fault is one that a cell may hold
 pub field_is_cell : (ty : ValueType) (row col : ℕ) (field : List ℕ) → field_fault ty row col field ≡ None → IsCell ty (cell_value ty field)
-field_is_cell type.Int row col field passes = number_is_cell field (cell_number field) refl (held _ (BadInt row col) passes)
+field_is_cell type.Int row col field passes = number_is_cell field (integer_of field) refl (held _ (BadInt row col) passes)
 field_is_cell type.Text row col field passes = ltb-false 120 (length field) (not_held (nat_lt 120 (length field)) (TextTooLong row col) passes)
 
 -- a row without a fault has a cell at each place

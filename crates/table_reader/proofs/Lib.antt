@@ -1,5 +1,4 @@
 pub mod RecordLaws
-pub mod NumberLaws
 pub mod ColumnLaws
 pub mod FaultLaws
 pub mod HeaderLaws

@@ -5,13 +5,13 @@ use Rattle.mq_base.specs.declared.value.Value.TheVariants as value
 use Rattle.mq_base.specs.declared.value.ValueType.{ValueType}
 use Rattle.mq_base.specs.declared.value.ValueType.TheVariants as type
 use Rattle.mq_base.specs.declared.table.PlainTable.{PlainTable}
-use Rattle.table_reader.specs.Number.{cell_number}
+use Rattle.word_forms.specs.Integers.{integer_of}
 use Rattle.table_reader.specs.Records.{Fields}
 use Rattle.table_reader.specs.Faults.{field_in}
 
 -- the value of a field that has no fault: the number that an INT field spells, the bytes of a TEXT field
 abbrev pub cell_value : ValueType → List ℕ → Value
-cell_value type.Int field = value.Int (unwrap_or (cell_number field) (pos 0))
+cell_value type.Int field = value.Int (unwrap_or (integer_of field) (pos 0))
 cell_value type.Text field = value.Text field
 
 -- the column at a place: the value of each row's field there, in the order of the rows

@@ -7,7 +7,7 @@ use Rattle.mq_base.specs.declared.value.ValueType.{ValueType}
 use Rattle.mq_base.specs.declared.value.ValueType.TheVariants as type
 use Rattle.table_reader.specs.declared.refusal.TableNo.{TableNo}
 use Rattle.table_reader.specs.declared.refusal.TableNo.TheVariants.{BadHeader, BadRow, BadInt, TextTooLong, TooManyRows}
-use Rattle.table_reader.specs.Number.{cell_number}
+use Rattle.word_forms.specs.Integers.{integer_of}
 use Rattle.table_reader.specs.Records.{Fields}
 
 -- the names of columns, in their order
@@ -42,7 +42,7 @@ length_fault types row fields = if length fields == length types then None else 
 
 -- an INT field spells no number within 64 bits; a TEXT field has more than 120 bytes
 abbrev pub field_fault : ValueType → ℕ → ℕ → List ℕ → Option TableNo
-field_fault type.Int row col field = if is_some (cell_number field) then None else Some (BadInt row col)
+field_fault type.Int row col field = if is_some (integer_of field) then None else Some (BadInt row col)
 field_fault type.Text row col field = if nat_lt 120 (length field) then Some (TextTooLong row col) else None
 
 -- the type of the column at a place; it is asked only where there is one

@@ -1,4 +1,3 @@
-pub mod Number
 pub mod Records
 pub mod Faults
 pub mod Content

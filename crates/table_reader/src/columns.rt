@@ -6,12 +6,12 @@ ghost use Rattle.table_reader.specs.Faults.{cell_fault, field_fault, record_faul
 ghost use Rattle.table_reader.specs.Outcome.{StopsAt};
 ghost use Rattle.table_reader.specs.Records.{IsReading, records_left};
 
-use crate::number::integer;
 use crate::records::{field, next_record};
 use crate::refusal::TableNo;
 use csv::{ByteRecord, Reader};
 use mq_base::{Seq, Text, Value, ValueType};
 use std::alloc::{AllocError, Global};
+use word_forms::integer;
 
 /// The most rows that a table may have.
 const MAX_ROWS: u64 = 100_000;
@@ -43,7 +43,7 @@ fn value_of(
 {
     match ty {
         ValueType::Int => match integer(field) {
-            Some(number) => Ok(Value::Int(number)),
+            Some(number) => Ok(Value::Int(i128::from(number))),
             None => Err(TableNo::BadInt { row, col }),
         },
         ValueType::Text => {

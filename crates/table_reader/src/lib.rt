@@ -3,7 +3,6 @@
 #![tactic(auto)]
 
 mod columns;
-mod number;
 mod records;
 mod refusal;
 mod table;

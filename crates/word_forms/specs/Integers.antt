@@ -1,4 +1,4 @@
--- What an INT field spells. docs/FORMATS.md, "Table file", tells it in prose.
+-- What a number in a file spells. docs/FORMATS.md, "Table file" and "Query", tell it in prose.
 use Rattle.std.specs.Prelude.{ℕ, ◌==◌, ◌&&◌, List, [], ◌∷◌, Option, Some, None, option_map, ℤ, pos, negsuc, neg_ℤ, int_le, if◌then◌else◌, Bool}
 use Rattle.std.specs.Option.{option_and_then}
 use Rattle.std.specs.Str.{all_ascii_digits}
@@ -29,6 +29,6 @@ fits_64_bits z = int_le (negsuc 9223372036854775807) z && int_le z (pos 92233720
 abbrev pub within_64_bits : ℤ → Option ℤ
 within_64_bits z = if fits_64_bits z then Some z else None
 
--- the number of an INT field, where the field spells one that fits
-abbrev pub cell_number : List ℕ → Option ℤ
-cell_number field = option_and_then within_64_bits (int_of field)
+-- the integer that a text spells, where it spells one that fits
+abbrev pub integer_of : List ℕ → Option ℤ
+integer_of text = option_and_then within_64_bits (int_of text)

@@ -6,7 +6,7 @@ use Rattle.std.specs.Str.Parse.{digits_value}
 use Rattle.std.proofs.lemmas.Int.Digits.{digits_value_more}
 use Rattle.std.proofs.lemmas.List.{drop_more}
 use Rattle.std.proofs.lemmas.Str.{digit_value_digit}
-use Rattle.table_reader.specs.Number.{natural_of}
+use Rattle.word_forms.specs.Integers.{natural_of}
 
 -- digits alone are a number
 pub natural_of-digits : (digits : List ℕ) → 0 < length digits → all_ascii_digits digits ≡ true

@@ -1,8 +1,8 @@
 ghost use Rattle.std.specs.Prelude.{◌≡◌, ◌-◌, ◌^◌, min, option_map};
-ghost use Rattle.table_reader.specs.Number.{cell_number, natural_of, within_64_bits};
+ghost use Rattle.word_forms.specs.Integers.{integer_of, natural_of, within_64_bits};
 
 /// The number of at least one digit and of nothing else, cut at 2^64 - 1.
-#[tactic(auto, using(crate::proofs::NumberLaws::digit_by_digit))]
+#[tactic(auto, using(crate::proofs::IntegerLaws::digit_by_digit))]
 fn natural(digits: &[u8]) -> Option<u64>
     ensures { result ≡ option_map (λ n. min n (2 ^ 64 - 1)) (natural_of digits.now) }
 {
@@ -22,21 +22,22 @@ fn natural(digits: &[u8]) -> Option<u64>
 }
 
 /// The number itself where `i64` holds it.
-fn within_i64(number: i128) -> Option<i128>
+fn within_i64(number: i128) -> Option<i64>
     ensures { result ≡ within_64_bits number }
 {
     if number < i128::from(i64::MIN) || i128::from(i64::MAX) < number {
         return None;
     }
-    Some(number)
+    Some(number as i64)
 }
 
-/// The number of an INT field: an optional `-` and at least one digit, with a value within `i64`.
-pub fn integer(field: &[u8]) -> Option<i128>
-    ensures { result ≡ cell_number field.now }
+/// The integer that a text spells: an optional `-` and at least one digit, with a value within `i64`; or none, where
+/// it spells no such number. A text may have any number of digits, leading zeros too.
+pub fn integer(text: &[u8]) -> Option<i64>
+    ensures { result ≡ integer_of text.now }
 {
-    match field.strip_prefix(b"-") {
+    match text.strip_prefix(b"-") {
         Some(digits) => within_i64(-i128::from(natural(digits)?)),
-        None => within_i64(i128::from(natural(field)?)),
+        None => within_i64(i128::from(natural(text)?)),
     }
 }
