@@ -1,6 +1,7 @@
 -- Laws of the first fault: what a search for it keeps from place to place, and what it finds.
-use Rattle.std.proofs.Common.{◌≡◌, ℕ, zero, suc, ◌+◌, ◌-◌, ◌<◌, ◌≤◌, Option, Some, None, refl, arith, add-one, ◌⊎◌, inl, inr}
-use Rattle.base_laws.specs.Firsts.{or_else, first_at, IsFirstAt}
+use Rattle.std.proofs.Common.{◌≡◌, ℕ, zero, suc, ◌+◌, ◌-◌, ◌<◌, ◌≤◌, Option, Some, None, List, [], ◌∷◌, map, All, refl, arith, add-one, ◌⊎◌, inl, inr}
+use Rattle.std.proofs.lemmas.List.Elements.{All-nil, All-cons}
+use Rattle.base_laws.specs.Firsts.{or_else, first_at, first_of, IsFirstAt}
 
 -- where a place passes, the places after it decide
 pub first_at-more : {F : Type 0} (test : ℕ → Option F) (at n : ℕ) → at < n → test at ≡ None
@@ -33,7 +34,8 @@ at_each P start k low here later = by_place (this_or_later k start low)
     by_place (inl same) = rw same here
     by_place (inr after) = later after
 
-none_left : {F : Type 0} (here rest : Option F) → or_else here rest ≡ None → (here ≡ None) × (rest ≡ None)
+-- where there is no fault at all, neither part has one
+pub none_left : {F : Type 0} (here rest : Option F) → or_else here rest ≡ None → (here ≡ None) × (rest ≡ None)
 none_left None rest none = (refl, none)
 none_left (Some fault) rest none = cc
 
@@ -82,3 +84,11 @@ first_at-some test start (suc n) fault found =
         → IsFirstAt test start (suc n) fault
     by_place (inl here) later = found_here test start n fault here
     by_place (inr after) later = found_later test start n fault after.0 (later after.1)
+
+-- where no member of a list has a fault, each of them passes
+pub first_of-none : {A F : Type 0} (test : A → Option F) (xs : List A) → first_of (map test xs) ≡ None
+    → All (λ x. test x ≡ None) xs
+first_of-none test [] none = All-nil (λ x. test x ≡ None)
+first_of-none test (x ∷ xs) none =
+    let parts = none_left (test x) (first_of (map test xs)) none in
+    All-cons (λ y. test y ≡ None) x xs parts.0 (first_of-none test xs parts.1)

@@ -1,4 +1,5 @@
 pub mod FirstLaws
+pub mod ListLaws
 pub mod OrderLaws
 pub mod SetLaws
 pub mod SortLaws

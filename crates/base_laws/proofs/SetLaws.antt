@@ -1,11 +1,13 @@
 -- Laws of sets as numbers: membership in what is made of sets, and inclusion.
-use Rattle.std.proofs.Common.{◌≡◌, ◌≢◌, ℕ, zero, suc, ◌^◌, ◌+◌, ◌%◌, ◌<◌, ◌==◌, Bool, true, false, ◌||◌, ◌&&◌, not, min, max, bit_and, bit_or, refl, sym, ◌∙◌, arith, ◌⊎◌, inl, inr}
+use Rattle.std.proofs.Common.{◌≡◌, ◌≢◌, ℕ, zero, suc, ◌^◌, ◌+◌, ◌%◌, ◌<◌, ◌==◌, List, [], ◌∷◌, Bool, true, false, ◌||◌, ◌&&◌, not, min, max, bit_and, bit_or, refl, sym, ◌∙◌, arith, ◌⊎◌, inl, inr}
 use Rattle.std.specs.Prelude.{IsTrue}
 use Rattle.std.specs.Int.{bit_at, trailing_zeros, w64}
+use Rattle.std.specs.List.{list_any}
 use Rattle.std.proofs.lemmas.Nat.Bits.{bit_at_or, bit_at_and, bit_at_xor, bit_at-lt, bit_at-pow_same, bit_at-pow_other, bit_at-zero, bit_at-trailing_zeros, same_from_bits}
+use Rattle.std.proofs.lemmas.Bool.{eqb-false, eqb-true}
 use Rattle.std.proofs.lemmas.Bool.Decides.{nat_tests}
 use Rattle.base_laws.specs.Folds.{union_to}
-use Rattle.base_laws.specs.Sets.{has, without, IsWithin, is_within, IsLeastMember}
+use Rattle.base_laws.specs.Sets.{has, with_member, with_members, without, IsWithin, is_within, IsLeastMember}
 
 bit_is : (b : ℕ) → b < 2 → (b ≡ 0) ⊎ (b ≡ 1)
 bit_is b small = grind arith
@@ -128,3 +130,27 @@ has-union_to set (suc n) i k below inside =
     by_place : (k ≡ n) ⊎ (k < n) → (k < n → has (union_to set n) i ≡ true) → has (bit_or (union_to set n) (set n)) i ≡ true
     by_place (inl same) earlier = rw has-bit_or (or_true _ _ (rw same at inside))
     by_place (inr before) earlier = rw has-bit_or (either_true _ _ (earlier before))
+
+-- the set of one number has the numbers that are that one
+pub has-single : (k i : ℕ) → has (2 ^ k) i ≡ (k == i)
+has-single k i = by_test (k == i) refl
+  where
+    by_test : (b : Bool) → (k == i) ≡ b → has (2 ^ k) i ≡ b
+    by_test true same = let one : k ≡ i = eqb-true k i same in rw one (has-single_same i)
+    by_test false other = has-single_other k i (λ same. eqb-false k i other (sym same))
+
+or_assoc : (a b c : Bool) → ((a || b) || c) ≡ (a || (b || c))
+or_assoc true b c = refl
+or_assoc false b c = refl
+
+-- a member of a set with members added is one of the set or one of those
+pub has-with_members : (set : ℕ) (members : List ℕ) (i : ℕ)
+    → has (with_members set members) i ≡ (has set i || list_any (λ k. k == i) members)
+has-with_members set [] i = or_none (has set i)
+  where
+    or_none : (a : Bool) → a ≡ (a || false)
+    or_none true = refl
+    or_none false = refl
+has-with_members set (k ∷ rest) i =
+    has-with_members (with_member set k) rest i
+    ∙ rw (has-bit_or set (2 ^ k) i, has-single k i) (or_assoc (has set i) (k == i) (list_any (λ k. k == i) rest))

@@ -1,6 +1,6 @@
 -- Sets of small numbers, each written as one number: i is a member where bit i is 1.
 -- Union is `bit_or`, what is common to two sets is `bit_and`, and the set of i alone is 2 ^ i.
-use Rattle.std.specs.Prelude.{◌≡◌, ℕ, ◌^◌, ◌<◌, ◌==◌, Bool, true, false, bit_and, bit_or, bit_xor}
+use Rattle.std.specs.Prelude.{◌≡◌, ℕ, ◌^◌, ◌<◌, ◌==◌, Bool, true, false, List, [], ◌∷◌, bit_and, bit_or, bit_xor}
 use Rattle.std.specs.Int.{bit_at}
 
 -- whether i is a member of the set
@@ -27,3 +27,8 @@ is_within set other = bit_or set other == other
 pub record IsLeastMember (set i : ℕ) : Type 0 where
   pub member : has set i ≡ true
   pub least : (k : ℕ) → k < i → has set k ≡ false
+
+-- the set with each of these as a member
+abbrev pub with_members : ℕ → List ℕ → ℕ
+with_members set [] = set
+with_members set (i ∷ rest) = with_members (with_member set i) rest
