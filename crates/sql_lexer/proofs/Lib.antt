@@ -6,4 +6,5 @@ pub mod Runs
 pub mod SliceLaws
 pub mod Steps
 pub mod TextEnds
+pub mod TokenFronts
 pub mod Turns

@@ -106,11 +106,11 @@ number_front (b ∷ rest) more number = by_sign number
         let count : 1 + length rest + prefix_len is_ascii_digit more ≡ suc (length rest) + prefix_len is_ascii_digit more = omega arith in
         front_of-minus b (rest ++ more) signed.0 ∙ minus_digits rest more signed.1 ∙ ap (λ n. Taken Number n) count
 
-front_of-quote : (rest : List ℕ) → front_of (39 ∷ rest) ≡ quoted (text_end rest)
+pub front_of-quote : (rest : List ℕ) → front_of (39 ∷ rest) ≡ quoted (text_end rest)
 unfolding front_of
 front_of-quote rest = refl
 
-front_of-apart : (b : ℕ) (rest : List ℕ) → IsApart b → front_of (b ∷ rest) ≡ symbol_front (b ∷ rest)
+pub front_of-apart : (b : ℕ) (rest : List ℕ) → IsApart b → front_of (b ∷ rest) ≡ symbol_front (b ∷ rest)
 unfolding front_of
 front_of-apart b rest apart =
     chosen_second (is_white b) White _ apart.no_white

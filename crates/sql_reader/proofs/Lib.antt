@@ -1,0 +1,16 @@
+pub mod PrintLaws
+pub mod SpellLexing
+pub mod SpellPhrases
+pub mod SpellNumbers
+pub mod SpellTokens
+pub mod SpellParts
+pub mod SpellQuery
+pub mod PrintTests
+pub mod Examples
+pub mod WritableLaws
+pub mod LoopLaws
+pub mod TokenLaws
+pub mod OutcomeLaws
+pub mod ProductionLaws
+pub mod MarkLaws
+pub mod ReaderLaws

@@ -1,0 +1,14 @@
+pub mod Marks
+pub mod Phrases
+pub mod Syntax
+pub mod Grammar
+pub mod Reading
+pub mod Readers
+pub mod QueryReaders
+pub mod Outcome
+pub mod Answers
+pub mod Codes
+pub mod Writable
+pub mod Spelling
+pub mod Placeless
+pub mod PrintParts

@@ -1,0 +1,25 @@
+//! The grammar of queries, both ways: the query that a text is, with names and texts as slices of it, or the first
+//! refusal; and a query written in its canonical spelling. It stands on the tokens, and knows no schema.
+#![tactic(auto)]
+
+mod conditions;
+mod groups;
+mod items;
+mod mark;
+mod print;
+#[cfg(test)]
+mod print_tests;
+mod raw;
+mod reader;
+mod refusal;
+mod sources;
+mod stop;
+mod terminals;
+
+pub use print::print_query;
+pub use raw::{RawCol, RawCond, RawHaving, RawItem, RawLit, RawQuery, RawSide, RawSource};
+pub use reader::read_query;
+pub use refusal::SqlNo;
+
+#[cfg(test)]
+mod tests;
