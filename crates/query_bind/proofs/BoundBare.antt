@@ -1,0 +1,76 @@
+-- A query without GROUP BY and without a fault selects columns alone.
+use Rattle.std.proofs.Common.{◌≡◌, false, List, [], ◌∷◌, ◌++◌, map, All, None, refl, ap, ◌∙◌, get_or}
+use Rattle.std.proofs.lemmas.List.Elements.{All-nil, All-head, All-tail, All-append, All-map, All-same}
+use Rattle.std.proofs.lemmas.List.Folds.{list_any_none}
+use Rattle.base_laws.proofs.FirstLaws.{first_of-none}
+use Rattle.mq_base.specs.declared.ids.AttrId.{AttrId}
+use Rattle.mq_base.specs.declared.query.Agg.{Agg}
+use Rattle.mq_base.specs.declared.query as query
+use Rattle.mq_base.specs.declared.schema.Schema.{Schema}
+use Rattle.mq_base.specs.BoundQuery.{IsUsed, IsBareItem, IsBare}
+use Rattle.sql_reader.specs.Syntax.{Item, Plain, Aggregate, Count, Having, Query}
+use Rattle.query_bind.specs.Lookup.{item_columns, Use, selected_use, having_use, all_uses}
+use Rattle.query_bind.specs.Bound.{attribute, bound_item, bound_having, group_set, with_item, aggs_after, is_count, has_count, bound_query}
+use Rattle.query_bind.specs.Faults.{bare_item_fault, bare_fault}
+
+bare_item : (schema : Schema) (bound : query.Query.Query) (i : Item) → bare_item_fault i ≡ None
+    → All (λ c. IsUsed schema bound.tables (attribute schema c)) (item_columns i) → IsBareItem schema bound (bound_item schema i)
+bare_item schema bound (Plain c) none used = All-head (λ k. IsUsed schema bound.tables (attribute schema k)) c [] used
+bare_item schema bound (Aggregate func c at) none used = cc
+bare_item schema bound (Count at) none used = cc
+
+-- an item that is a column
+abbrev IsPlain : Item → Type 0
+IsPlain (Plain c) = Unit {0}
+IsPlain (Aggregate func c at) = ⊥
+IsPlain (Count at) = ⊥
+
+plain_if_passed : (i : Item) → bare_item_fault i ≡ None → IsPlain i
+plain_if_passed (Plain c) none = tt
+plain_if_passed (Aggregate func c at) none = cc
+plain_if_passed (Count at) none = cc
+
+plain_adds : (schema : Schema) (i : Item) (aggs : List (AttrId × Agg)) → IsPlain i → with_item schema i aggs ≡ aggs
+plain_adds schema (Plain c) aggs plain = refl
+plain_adds schema (Aggregate func c at) aggs plain = absurd plain
+plain_adds schema (Count at) aggs plain = absurd plain
+
+plain_is_no_count : (i : Item) → IsPlain i → is_count i ≡ false
+plain_is_no_count (Plain c) plain = refl
+plain_is_no_count (Aggregate func c at) plain = absurd plain
+plain_is_no_count (Count at) plain = absurd plain
+
+-- columns alone list no function and hold no count
+no_aggs : (schema : Schema) (aggs : List (AttrId × Agg)) (uses : List Use) → All (λ (u : Use). IsPlain u.item) uses
+    → aggs_after schema aggs uses ≡ aggs
+no_aggs schema aggs [] plain = refl
+no_aggs schema aggs (u ∷ rest) plain =
+    ap (λ more. aggs_after schema more rest) (plain_adds schema u.item aggs (All-head (λ (v : Use). IsPlain v.item) u rest plain))
+    ∙ no_aggs schema aggs rest (All-tail (λ (v : Use). IsPlain v.item) u rest plain)
+
+no_count : (uses : List Use) → All (λ (u : Use). IsPlain u.item) uses → has_count uses ≡ false
+no_count uses plain =
+    list_any_none (λ (u : Use). is_count u.item) uses (λ k d below. plain_is_no_count (get_or uses k d).item (plain k d below))
+
+all_plain : (items : List Item) (having : List Having) → All (λ i. bare_item_fault i ≡ None) items → having ≡ []
+    → All (λ (u : Use). IsPlain u.item) (map selected_use items ++ map having_use having)
+all_plain items having passes none =
+    All-append (λ (u : Use). IsPlain u.item) (map selected_use items) (map having_use having)
+    (All-map (λ (u : Use). IsPlain u.item) selected_use items (λ k d below. plain_if_passed (get_or items k d) (passes k d below)))
+    (All-same (λ (u : Use). IsPlain u.item) (map having_use having) [] (ap (map having_use) none) (All-nil (λ (u : Use). IsPlain u.item)))
+
+pub bare_query : (schema : Schema) (q : Query) → bare_fault q ≡ None → q.group ≡ [] → q.having ≡ []
+    → All (λ i. All (λ c. IsUsed schema (bound_query schema q).tables (attribute schema c)) (item_columns i)) q.items
+    → IsBare schema (bound_query schema q)
+unfolding bound_query
+bare_query schema q none no_group no_having used =
+    let passes : All (λ i. bare_item_fault i ≡ None) q.items = first_of-none bare_item_fault q.items none in
+    let plain : All (λ (u : Use). IsPlain u.item) (all_uses q) = all_plain q.items q.having passes no_having in
+    record {
+      items = All-map (IsBareItem schema (bound_query schema q)) (bound_item schema) q.items
+          (λ k d below. bare_item schema (bound_query schema q) (get_or q.items k d) (passes k d below) (used k d below));
+      group = ap (group_set schema) no_group;
+      aggs = no_aggs schema [] (all_uses q) plain;
+      count = no_count (all_uses q) plain;
+      having = ap (map (bound_having schema)) no_having;
+    }

@@ -1,0 +1,10 @@
+use Rattle.std.proofs.Common.{◌≡◌, drop, map}
+use Rattle.base_laws.specs.Firsts.{first_of}
+use Rattle.sql_reader.specs.Syntax.{item_of}
+use Rattle.query_bind.specs.Faults.{grouped_item_fault}
+use Rattle.query_bind.proofs.items.check_grouped.Given as goal
+
+abbrev pub invariant-loop-item : goal.invariant-loop-item
+invariant-loop-item l =
+    first_of (map (grouped_item_fault l.schema l.group.0) (map item_of l.items))
+    ≡ first_of (map (grouped_item_fault l.schema l.group.0) (map item_of (drop l.item-index l.items)))

@@ -1,0 +1,180 @@
+ghost use Rattle.std.specs.Prelude.{◌≡◌, ◌≤◌, ◌-◌, ◌^◌, if◌then◌else◌, All, min};
+ghost use Rattle.std.specs.List.{flat_map, list_any};
+ghost use Rattle.base_laws.specs.Sets.{with_members};
+ghost use Rattle.mq_base.specs.Nodes.{aggregated, cond_attributes, is_of, is_of_some, joins, node_count, projects, selected_set, unjoined, visible_set};
+ghost use Rattle.query_bind.specs.Faults.{nodes_fault};
+ghost use Rattle.query_bind.specs.Results.{fault_of};
+ghost use Rattle.query_bind.specs.Small.{IsSmall, IsSmallAgg, IsSmallCond, IsSmallItem, with_item};
+
+use crate::fault::Fault;
+use crate::names::table_of;
+use crate::refusal::BindCode;
+use mq_base::{Agg, AttrId, AttrSet, Cond, Item, Query, Schema, TableId};
+
+/// The plan of the query has at most 64 nodes.
+pub fn check_nodes(schema: &Schema, query: &Query) -> Result<(), Fault>
+    requires { IsSmall query.now }
+    ensures { fault_of result ≡ nodes_fault schema.now query.now }
+{
+    if node_count(schema, query) > 64 {
+        return Err(Fault {
+            code: BindCode::TooManyNodes,
+            at: 0,
+        });
+    }
+    Ok(())
+}
+
+/// The number of nodes of the query's plan, cut at the largest number.
+#[tactic(auto, unfolding(mq_base::specs::Nodes::node_count))]
+fn node_count(schema: &Schema, query: &Query) -> usize
+    requires { IsSmall query.now }
+    ensures { result ≡ min (node_count schema.now query.now) (2 ^ 64 - 1) }
+{
+    let tables = query.tables.as_slice();
+    let conds = query.conds.as_slice();
+    let ends = usize::from(query.grouped) + usize::from(projects(query));
+    tables
+        .len()
+        .saturating_add(conds.len())
+        .saturating_add(unjoined(schema, conds, tables))
+        .saturating_add(query.having.as_slice().len())
+        .saturating_add(ends)
+}
+
+/// How many tables after the first no condition joins to an earlier one.
+#[tactic(auto, using(crate::proofs::NodeLaws::tables))]
+fn unjoined(schema: &Schema, conds: &[Cond], tables: &[TableId]) -> usize
+    ensures { result ≡ unjoined schema.now conds.now tables.now }
+{
+    let mut count = 0;
+    for at in 1..tables.len() {
+        count += one_unless_joined(schema, conds, &tables[..at], tables[at]);
+    }
+    count
+}
+
+/// 1 where no condition joins the table to one before it.
+fn one_unless_joined(schema: &Schema, conds: &[Cond], earlier: &[TableId], t: TableId) -> usize
+    ensures one { result ≡ (if list_any (joins schema.now earlier.now t) conds.now then 0 else 1) }
+    ensures small { result ≤ 1 }
+{
+    if is_joined(schema, conds, earlier, t) {
+        0
+    } else {
+        1
+    }
+}
+
+/// Whether a condition compares an attribute of this table with one of the tables before it.
+fn is_joined(schema: &Schema, conds: &[Cond], earlier: &[TableId], t: TableId) -> bool
+    ensures { result ≡ list_any (joins schema.now earlier.now t) conds.now }
+{
+    conds.iter().any(|cond| joins(schema, earlier, t, cond))
+}
+
+fn joins(schema: &Schema, earlier: &[TableId], t: TableId, cond: &Cond) -> bool
+    ensures { result ≡ joins schema.now earlier.now t cond.now }
+{
+    match cond {
+        Cond::Const(..) => false,
+        Cond::Attrs(a, _, b) => {
+            (is_of_some(schema, earlier, *a) && is_of(schema, t, *b))
+                || (is_of(schema, t, *a) && is_of_some(schema, earlier, *b))
+        }
+    }
+}
+
+fn is_of_some(schema: &Schema, tables: &[TableId], a: AttrId) -> bool
+    ensures { result ≡ is_of_some schema.now tables.now a }
+{
+    tables.iter().any(|t| is_of(schema, *t, a))
+}
+
+fn is_of(schema: &Schema, t: TableId, a: AttrId) -> bool
+    ensures { result ≡ is_of schema.now t.0 a }
+{
+    match table_of(schema, a) {
+        Some(owner) => owner.0 == t.0,
+        None => false,
+    }
+}
+
+/// Whether a projection ends the plan.
+fn projects(query: &Query) -> bool
+    requires { IsSmall query.now }
+    ensures { result ≡ projects query.now }
+{
+    selected_set(query.items.as_slice()).0 != visible_set(query).0
+}
+
+/// The attributes that are visible before the selected ones are kept.
+fn visible_set(query: &Query) -> AttrSet
+    requires { IsSmall query.now }
+    ensures { result.0 ≡ visible_set query.now }
+{
+    if query.grouped {
+        with_aggregated(query.group, query.aggs.as_slice())
+    } else {
+        with_conditions(selected_set(query.items.as_slice()), query.conds.as_slice())
+    }
+}
+
+/// The selected attributes.
+#[tactic(auto, using(crate::proofs::NodeLaws::sets))]
+fn selected_set(items: &[Item]) -> AttrSet
+    requires { All IsSmallItem items.now }
+    ensures { result.0 ≡ selected_set items.now }
+{
+    let mut set = AttrSet::EMPTY;
+    for item in items {
+        set = with_item(set, *item);
+    }
+    set
+}
+
+fn with_item(set: AttrSet, item: Item) -> AttrSet
+    requires { IsSmallItem item }
+    ensures { result.0 ≡ with_item set.0 item }
+{
+    match item {
+        Item::Attr(a) => set.with(a),
+        Item::Count => set,
+    }
+}
+
+/// A set with the attributes that conditions name.
+#[tactic(auto, using(crate::proofs::NodeLaws::sets))]
+fn with_conditions(from: AttrSet, conds: &[Cond]) -> AttrSet
+    requires { All IsSmallCond conds.now }
+    ensures { result.0 ≡ with_members from.0 (flat_map cond_attributes conds.now) }
+{
+    let mut set = from;
+    for cond in conds {
+        set = with_condition(set, cond);
+    }
+    set
+}
+
+fn with_condition(set: AttrSet, cond: &Cond) -> AttrSet
+    requires { IsSmallCond cond.now }
+    ensures { result.0 ≡ with_members set.0 (cond_attributes cond.now) }
+{
+    match cond {
+        Cond::Const(a, _, _) => set.with(*a),
+        Cond::Attrs(a, _, b) => set.with(*a).with(*b),
+    }
+}
+
+/// A set with the attributes under functions.
+#[tactic(auto, using(crate::proofs::NodeLaws::sets))]
+fn with_aggregated(from: AttrSet, aggs: &[(AttrId, Agg)]) -> AttrSet
+    requires { All IsSmallAgg aggs.now }
+    ensures { result.0 ≡ with_members from.0 (aggregated aggs.now) }
+{
+    let mut set = from;
+    for (a, _) in aggs {
+        set = set.with(*a);
+    }
+    set
+}
