@@ -10,7 +10,7 @@ use Rattle.policy_reader.specs.declared.refusal.PolicyCode.TheVariants as code
 use Rattle.policy_reader.specs.Codes as policy
 use Rattle.mq_base.specs.declared.ids.TableId.{TableId}
 use Rattle.mq_base.specs.declared.table.PlainTable.{PlainTable}
-use Rattle.selection_reader.specs.declared.selection.Selection.{Selection}
+use Rattle.planner_cli.specs.declared.selection.Selection.{Selection}
 use Rattle.table_reader.specs.declared.refusal.TableNo.{TableNo}
 use Rattle.table_reader.specs.declared.refusal.TableNo.TheVariants as no
 use Rattle.table_reader.specs.Outcome.{table_outcome}

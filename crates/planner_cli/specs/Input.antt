@@ -2,6 +2,8 @@
 -- before the next is looked at. docs/FORMATS.md, "Input", tells it in prose.
 use Rattle.std.specs.Prelude.{ℕ, List, ◌++◌, length, nat_lt, codes, slice_get, Option, Some, None, Result, Ok, Err, if◌then◌else◌}
 use Rattle.std.specs.Option.{option_map_or}
+use Rattle.std.specs.Str.{is_utf8}
+use Rattle.std.specs.Str.Lossy.{utf8_valid_len}
 use Rattle.mq_base.specs.declared.ids.TableId.{TableId}
 use Rattle.mq_base.specs.declared.schema.TableInfo.{TableInfo}
 use Rattle.mq_base.specs.declared.table.PlainTable.{PlainTable}
@@ -9,8 +11,17 @@ use Rattle.policy_reader.specs.declared.fault.Fault.{Fault}
 use Rattle.policy_reader.specs.declared.policy.Policy.{Policy}
 use Rattle.policy_reader.specs.Codes as policy
 use Rattle.policy_reader.specs.Outcome.{policy_outcome}
-use Rattle.selection_reader.specs.declared.selection.Selection.{Selection}
-use Rattle.selection_reader.specs.Binding.{selection_of}
+use Rattle.query_bind.specs.declared.fault as bind
+use Rattle.query_bind.specs.Codes as bind_codes
+use Rattle.query_bind.specs.Faults.{bind_outcome}
+use Rattle.sql_reader.specs.declared.refusal.SqlNo.{SqlNo}
+use Rattle.sql_reader.specs.declared.refusal.SqlNo.TheVariants as sql
+use Rattle.sql_reader.specs.Outcome.{query_outcome}
+use Rattle.sql_reader.specs.Syntax as syntax
+use Rattle.mq_base.specs.declared.query.Query.{Query}
+use Rattle.mq_base.specs.declared.schema.Schema.{Schema}
+use Rattle.planner_cli.specs.declared.selection.Selection.{Selection}
+use Rattle.planner_cli.specs.Selection.{selection_of}
 use Rattle.table_reader.specs.declared.refusal.TableNo.{TableNo}
 use Rattle.table_reader.specs.declared.refusal.TableNo.TheVariants as no
 use Rattle.table_reader.specs.Outcome.{table_outcome}
@@ -62,13 +73,33 @@ policy_judged (Err fault) = Err (refusal role.Policy (policy.number_of fault.cod
 abbrev pub policy_read : List ℕ → Result Policy Stop
 policy_read bytes = policy_judged (policy_outcome bytes)
 
--- the query file: for now a query is of one table, and every other text has code 99
-abbrev pub query_judged : Option Selection → Result Selection Stop
-query_judged None = Err (refusal role.Query 99 0 0)
-query_judged (Some selection) = Ok selection
+-- the query file: its bytes are UTF-8, they are a query, and the query binds; so far a query that binds has code 99 where
+-- it has more than one table, a condition or a group
+abbrev pub grammar_judged : Result syntax.Query SqlNo → Result syntax.Query Stop
+grammar_judged (Ok q) = Ok q
+grammar_judged (Err (sql.BadChar at)) = Err (refusal role.Query 1 at 0)
+grammar_judged (Err (sql.OpenText at)) = Err (refusal role.Query 2 at 0)
+grammar_judged (Err (sql.Unexpected at)) = Err (refusal role.Query 3 at 0)
+grammar_judged (Err (sql.NumberRange at)) = Err (refusal role.Query 4 at 0)
+grammar_judged (Err sql.NoMemory) = Err (absent role.Query)
 
-abbrev pub query_read : Policy → List ℕ → Result Selection Stop
-query_read p bytes = query_judged (selection_of p.schema bytes)
+abbrev pub bind_judged : Result Query bind.Fault.Fault → Result Query Stop
+bind_judged (Ok q) = Ok q
+bind_judged (Err fault) = Err (refusal role.Query (bind_codes.number_of fault.code) fault.at 0)
+
+abbrev pub selection_judged : Option Selection → Result Selection Stop
+selection_judged None = Err (refusal role.Query 99 0 0)
+selection_judged (Some selection) = Ok selection
+
+-- a text comes to a query with ids
+unfoldable pub text_bound : Schema → List ℕ → Result Query Stop
+text_bound schema text = and_then (grammar_judged (query_outcome text)) (λ q. bind_judged (bind_outcome schema q))
+
+abbrev pub bytes_bound : Schema → List ℕ → Result Query Stop
+bytes_bound schema bytes = if is_utf8 bytes then text_bound schema bytes else Err (refusal role.Query 1 (utf8_valid_len bytes) 0)
+
+unfoldable pub query_read : Schema → List ℕ → Result Selection Stop
+query_read schema bytes = and_then (bytes_bound schema bytes) (λ q. selection_judged (selection_of q))
 
 -- the file of a table
 abbrev pub table_judged : TableId → Result PlainTable TableNo → Result PlainTable Stop
@@ -95,7 +126,7 @@ unfoldable pub policy_input : List ℕ → Files → Result Policy Stop
 policy_input name files = opened role.Policy policy_read (content_of files name)
 
 unfoldable pub query_input : Policy → List ℕ → Files → Result Selection Stop
-query_input p name files = opened role.Query (query_read p) (content_of files name)
+query_input p name files = opened role.Query (query_read p.schema) (content_of files name)
 
 unfoldable pub table_input : Policy → TableId → Files → Result PlainTable Stop
 table_input p t files = opened (role.Table t) (table_read p t) (content_of files (table_file p t))

@@ -9,3 +9,4 @@ pub mod Report
 pub mod Loading
 pub mod Reading
 pub mod Run
+pub mod Selection

@@ -1,12 +1,14 @@
 -- What the calls that read files say of a shelf, whether it tells its content or not.
-use Rattle.std.specs.Prelude.{◌≡◌, ◌≤◌, ◌<◌, ℕ, Bool, true, List, length, Option, Some, None, Result, Ok, Err}
+use Rattle.std.specs.Prelude.{◌≡◌, ◌≢◌, ◌≤◌, ◌<◌, ℕ, Bool, true, List, length, Option, Some, None, Result, Ok, Err}
 use Rattle.outside_io.specs.Outside.{IsHeld, Rose}
 use Rattle.policy_reader.specs.declared.policy.Policy.{Policy}
 use Rattle.policy_reader.specs.Accepted.{IsAccepted}
 use Rattle.policy_reader.specs.Outcome.{policy_outcome}
-use Rattle.selection_reader.specs.declared.selection.Selection.{Selection}
-use Rattle.selection_reader.specs.Binding.{selection_of, IsSelectionOf}
+use Rattle.planner_cli.specs.declared.selection.Selection.{Selection}
+use Rattle.planner_cli.specs.Selection.{IsSelectionOf}
 use Rattle.mq_base.specs.declared.ids.TableId.{TableId}
+use Rattle.sql_reader.specs.declared.refusal.SqlNo.{SqlNo}
+use Rattle.sql_reader.specs.declared.refusal.SqlNo.TheVariants as sql
 use Rattle.table_reader.specs.declared.refusal.TableNo.{TableNo}
 use Rattle.table_reader.specs.declared.refusal.TableNo.TheVariants as no
 use Rattle.planner_cli.specs.declared.job.Job.{Job}
@@ -15,7 +17,7 @@ use Rattle.planner_cli.specs.declared.status.FileRole.TheVariants as role
 use Rattle.planner_cli.specs.declared.status.Status.{Status}
 use Rattle.planner_cli.specs.declared.status.Status.TheVariants.{Done, NoPlan, Words, Input, ReadFault, WriteFault, NoMemory}
 use Rattle.planner_cli.specs.Words.{Command}
-use Rattle.planner_cli.specs.Input.{Files, Stop, absent, refused, most, table_file}
+use Rattle.planner_cli.specs.Input.{Files, Stop, absent, refused, most, table_file, query_read}
 
 -- a fact of the files, where a shelf tells them
 abbrev pub WhereTold : Option Files → (Files → Type 0) → Type 0
@@ -48,6 +50,25 @@ TellsTable t (no.BadInt row col) status = status ≡ refused_status (role.Table 
 TellsTable t (no.TextTooLong row col) status = status ≡ refused_status (role.Table t) 4 row col
 TellsTable t no.TooManyRows status = status ≡ refused_status (role.Table t) 5 100001 0
 TellsTable t no.NoMemory status = status ≡ NoMemory
+
+-- an answer for the text of a query is what the text comes to, and a refusal is none of a file's length
+abbrev pub Judges : {X : Type 0} → Result X Status → Result X Stop → Type 0
+Judges (Ok x) outcome = outcome ≡ Ok x
+Judges (Err (Input fault)) outcome = (fault.code ≢ 0) × (outcome ≡ Err (refused fault))
+Judges (Err NoMemory) outcome = Unit {0}
+Judges (Err (ReadFault file)) outcome = ⊥
+Judges (Err Done) outcome = ⊥
+Judges (Err NoPlan) outcome = ⊥
+Judges (Err Words) outcome = ⊥
+Judges (Err WriteFault) outcome = ⊥
+
+-- the status of a refusal by the grammar of queries, where it is one
+abbrev pub TellsGrammar : SqlNo → Status → Type 0
+TellsGrammar (sql.BadChar at) status = status ≡ refused_status role.Query 1 at 0
+TellsGrammar (sql.OpenText at) status = status ≡ refused_status role.Query 2 at 0
+TellsGrammar (sql.Unexpected at) status = status ≡ refused_status role.Query 3 at 0
+TellsGrammar (sql.NumberRange at) status = status ≡ refused_status role.Query 4 at 0
+TellsGrammar sql.NoMemory status = status ≡ NoMemory
 
 -- a file could not be read: the count of faults rose, the name that failed is one that the file has, and over a
 -- steady shelf the file is absent
@@ -85,7 +106,7 @@ pub record HoldsQuery (held : Option Files) (name : List ℕ) (policy : Policy) 
   pub bytes : List ℕ
   pub is_held : IsHeld held name bytes
   pub within : length bytes ≤ most
-  pub is_query : selection_of policy.schema bytes ≡ Some selection
+  pub is_query : query_read policy.schema bytes ≡ Ok selection
 
 -- a policy and a query that the files of a command hold, as far as the shelf tells
 pub record HoldsBoth (held : Option Files) (command : Command) (policy : Policy) (selection : Selection) : Type 0 where

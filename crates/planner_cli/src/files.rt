@@ -4,37 +4,26 @@ ghost use Rattle.std.specs.Str.{IsUtf8};
 ghost use Rattle.mq_base.specs.Schema.{IsSchema};
 ghost use Rattle.outside_io.specs.Outside.{IsHeld, IsAbsent, Rose};
 ghost use Rattle.policy_reader.specs.Accepted.{IsAccepted};
-ghost use Rattle.selection_reader.specs.Binding.{IsSelectionOf};
+ghost use Rattle.planner_cli.specs.Selection.{IsSelectionOf};
 ghost use Rattle.planner_cli.specs.Commands.{command_in};
 ghost use Rattle.planner_cli.specs.Input.{most, policy_input, query_input, table_input, table_file, table_name, job_of};
 ghost use Rattle.planner_cli.specs.Reading.{FailsReading};
-ghost use Rattle.planner_cli.specs.Loading.{shelved, refused_status, TellsTable, WhereTold, Stops, IsOnly, HoldsPolicy, HoldsQuery, IsNamed, IsSound};
+ghost use Rattle.planner_cli.specs.Loading.{shelved, TellsTable, WhereTold, Stops, IsOnly, HoldsPolicy, HoldsQuery, IsNamed, IsSound};
 
 use crate::job::Job;
-use crate::status::{FileRole, InputFault, Status};
+use crate::query::read_selection;
+use crate::selection::Selection;
+use crate::status::{FileRole, Status, refused};
 use crate::words::RunWords;
 use mq_base::{NoMemory, PlainTable, Schema, TableId, Text};
 use outside_io::{Shelf, ShelfNo};
 use policy_reader::{Policy, PolicyNo, read_policy};
-use selection_reader::{Selection, SelectionNo, read_selection};
 use std::alloc::Global;
 use std::str;
 use table_reader::{TableNo, read_table};
 
 /// The most bytes that a file may have.
 const MOST: usize = 67_108_864;
-
-// A refusal of a file.
-fn refused(file: FileRole, code: u16, at: u64, item: u64) -> Status
-    ensures { result ≡ refused_status file code at item }
-{
-    Status::Input(InputFault {
-        file,
-        code,
-        at,
-        item,
-    })
-}
 
 // The bytes of a file.
 fn read_file<H: Shelf>(
@@ -103,11 +92,7 @@ fn load_query<H: Shelf>(
     ensures rising { H.faults shelf.old ≤ H.faults shelf.new }
 {
     let bytes = read_file(alloc, shelf, FileRole::Query, name)?;
-    match read_selection(alloc, bytes.as_slice(), &policy.schema) {
-        Ok(selection) => Ok(selection),
-        Err(SelectionNo::Refused) => Err(refused(FileRole::Query, 99, 0, 0)),
-        Err(SelectionNo::NoMemory) => Err(Status::NoMemory),
-    }
+    read_selection(alloc, bytes.as_slice(), &policy.schema)
 }
 
 // The bytes of a name as text.

@@ -1,6 +1,6 @@
+use crate::selection::Selection;
 use mq_base::PlainTable;
 use policy_reader::Policy;
-use selection_reader::Selection;
 
 // What the accepted files of a command stand for.
 #[derive(Drop)]

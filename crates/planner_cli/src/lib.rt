@@ -8,7 +8,9 @@ mod files;
 mod job;
 mod perform;
 mod plan_line;
+mod query;
 mod report;
+mod selection;
 mod status;
 mod words;
 

@@ -27,7 +27,7 @@ const PLAIN_BOTH: &str = "plain = [\"a\", \"b\"]\n";
 
 const ROWS: &str = "a,b\n1,x\n-2,y\n1,z\n";
 
-const SEED: &str = "0000000000000000000000000000000000000000000000000000000000000000";
+pub const SEED: &str = "0000000000000000000000000000000000000000000000000000000000000000";
 
 const RUN: [&str; 6] = ["run", "policy", "prices", "query", SEED, "0"];
 
@@ -60,7 +60,7 @@ fn files(
     Ok(files)
 }
 
-fn words(alloc: Global, given: &[&str]) -> Result<Vec<String>, NoMemory> {
+pub fn words(alloc: Global, given: &[&str]) -> Result<Vec<String>, NoMemory> {
     let mut words = Vec::new(alloc);
     for word in given {
         words.push(String::from_str(alloc, word)?)?;
@@ -68,7 +68,7 @@ fn words(alloc: Global, given: &[&str]) -> Result<Vec<String>, NoMemory> {
     Ok(words)
 }
 
-fn refused(file: FileRole, code: u16, at: u64, item: u64) -> Status {
+pub fn refused(file: FileRole, code: u16, at: u64, item: u64) -> Status {
     Status::Input(InputFault {
         file,
         code,
@@ -143,7 +143,7 @@ fn rows_give_their_reports(rt: HostRuntime) -> Result<(), Fail> {
             (FRONT, PLAIN_A),
             "select z from r",
             "a",
-            refused(FileRole::Query, 99, 0, 0),
+            refused(FileRole::Query, 13, 7, 0),
             "",
         ),
         (
