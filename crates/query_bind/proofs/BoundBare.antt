@@ -8,8 +8,8 @@ use Rattle.mq_base.specs.declared.query.Agg.{Agg}
 use Rattle.mq_base.specs.declared.query as query
 use Rattle.mq_base.specs.declared.schema.Schema.{Schema}
 use Rattle.mq_base.specs.BoundQuery.{IsUsed, IsBareItem, IsBare}
-use Rattle.sql_reader.specs.Syntax.{Item, Plain, Aggregate, Count, Having, Query}
-use Rattle.query_bind.specs.Lookup.{item_columns, Use, selected_use, having_use, all_uses}
+use Rattle.sql_reader.specs.Syntax.{Column, Item, Plain, Aggregate, Count, Having, Query}
+use Rattle.query_bind.specs.Lookup.{is_some_column, item_columns, Use, selected_use, having_use, all_uses}
 use Rattle.query_bind.specs.Bound.{attribute, bound_item, bound_having, group_set, with_item, aggs_after, is_count, has_count, bound_query}
 use Rattle.query_bind.specs.Faults.{bare_item_fault, bare_fault}
 
@@ -59,18 +59,29 @@ all_plain items having passes none =
     (All-map (λ (u : Use). IsPlain u.item) selected_use items (λ k d below. plain_if_passed (get_or items k d) (passes k d below)))
     (All-same (λ (u : Use). IsPlain u.item) (map having_use having) [] (ap (map having_use) none) (All-nil (λ (u : Use). IsPlain u.item)))
 
+-- a group without columns
+pub no_column : (group : List Column) → is_some_column group ≡ false → group ≡ []
+no_column [] none = refl
+no_column (c ∷ rest) none = cc
+
+plain_uses : (q : Query) → bare_fault q ≡ None → q.having ≡ [] → All (λ (u : Use). IsPlain u.item) (all_uses q)
+plain_uses q none no_having = all_plain q.items q.having (first_of-none bare_item_fault q.items none) no_having
+
+-- without GROUP BY no attribute stands under a function
+pub bare_aggs : (schema : Schema) (q : Query) → bare_fault q ≡ None → q.having ≡ [] → aggs_after schema [] (all_uses q) ≡ []
+bare_aggs schema q none no_having = no_aggs schema [] (all_uses q) (plain_uses q none no_having)
+
 pub bare_query : (schema : Schema) (q : Query) → bare_fault q ≡ None → q.group ≡ [] → q.having ≡ []
     → All (λ i. All (λ c. IsUsed schema (bound_query schema q).tables (attribute schema c)) (item_columns i)) q.items
     → IsBare schema (bound_query schema q)
 unfolding bound_query
 bare_query schema q none no_group no_having used =
     let passes : All (λ i. bare_item_fault i ≡ None) q.items = first_of-none bare_item_fault q.items none in
-    let plain : All (λ (u : Use). IsPlain u.item) (all_uses q) = all_plain q.items q.having passes no_having in
     record {
       items = All-map (IsBareItem schema (bound_query schema q)) (bound_item schema) q.items
           (λ k d below. bare_item schema (bound_query schema q) (get_or q.items k d) (passes k d below) (used k d below));
       group = ap (group_set schema) no_group;
-      aggs = no_aggs schema [] (all_uses q) plain;
-      count = no_count (all_uses q) plain;
+      aggs = bare_aggs schema q none no_having;
+      count = no_count (all_uses q) (plain_uses q none no_having);
       having = ap (map (bound_having schema)) no_having;
     }

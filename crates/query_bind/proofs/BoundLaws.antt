@@ -1,6 +1,6 @@
 -- A query without a fault is bound: its ids are those of the schema, what it compares has one type, and its plan is
 -- small enough.
-use Rattle.std.proofs.Common.{◌≡◌, ◌<◌, ◌≤◌, Bool, true, false, List, [], ◌∷◌, length, map, None, if◌then◌else◌, refl, get_or}
+use Rattle.std.proofs.Common.{◌≡◌, ◌<◌, ◌≤◌, Bool, true, false, List, [], length, map, None, if◌then◌else◌, refl, get_or}
 use Rattle.std.proofs.lemmas.Bool.{ltb-false}
 use Rattle.std.proofs.lemmas.List.{length-map}
 use Rattle.std.proofs.lemmas.List.Elements.{All-map, All-weaker}
@@ -12,7 +12,7 @@ use Rattle.mq_base.specs.Schema.{IsSchema}
 use Rattle.sql_reader.specs.Syntax.{Column, Query}
 use Rattle.sql_reader.specs.Writable.{IsWritable}
 use Rattle.query_bind.specs.declared.refusal.BindCode.TheVariants.{TooManyNodes}
-use Rattle.query_bind.specs.Lookup.{source_table, source_tables, all_conditions, is_some_column, has_group}
+use Rattle.query_bind.specs.Lookup.{source_table, source_tables, all_conditions, has_group}
 use Rattle.query_bind.specs.Bound.{attribute, bound_item, bound_condition, group_set, bound_query}
 use Rattle.query_bind.specs.Faults.{column_fault, bare_fault, grouped_fault, first_fault}
 use Rattle.query_bind.specs.Ranges.{NumbersFit}
@@ -20,15 +20,11 @@ use Rattle.query_bind.proofs.BoundParts.{passed, Passes, passes_each}
 use Rattle.query_bind.proofs.BoundTables.{table_ids, tables_known, tables_once, numbers_of_ids}
 use Rattle.query_bind.proofs.BoundColumns.{column_used, EachColumn, each_column}
 use Rattle.query_bind.proofs.BoundConditions.{condition_bound}
-use Rattle.query_bind.proofs.BoundBare.{bare_query}
+use Rattle.query_bind.proofs.BoundBare.{no_column, bare_query}
 use Rattle.query_bind.proofs.BoundGrouped.{grouped_query}
 
 at_least : {A B : Type 0} (f : A → B) (xs : List A) → 1 ≤ length xs → 1 ≤ length (map f xs)
 at_least f xs some = rw length-map some
-
-no_group : (group : List Column) → is_some_column group ≡ false → group ≡ []
-no_group [] none = refl
-no_group (c ∷ rest) none = cc
 
 -- a column of the query names an attribute of its tables
 abbrev IsUsedIn : Schema → Query → Column → Type 0
@@ -46,7 +42,7 @@ selected : (schema : Schema) (q : Query) → IsWritable q → NumbersFit q → E
     → IsBareOrGrouped b schema (bound_query schema q)
 unfolding bound_query
 selected schema q written fits used false bare none =
-    let empty : q.group ≡ [] = no_group q.group bare in
+    let empty : q.group ≡ [] = no_column q.group bare in
     bare_query schema q none empty (written.grouped empty) used.items
 selected schema q written fits used true grouped none =
     grouped_query schema q none grouped used written.having fits.having

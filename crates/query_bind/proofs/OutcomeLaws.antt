@@ -1,11 +1,10 @@
 -- Laws of the whole outcome: its parts in order, the functions and the count of a query, and its parts as one query.
-use Rattle.std.proofs.Common.{◌≡◌, ℕ, Bool, true, false, ◌||◌, List, [], ◌∷◌, ◌++◌, map, None, Result, Ok, Err, refl, sym, ◌∙◌, ap}
+use Rattle.std.proofs.Common.{◌≡◌, ℕ, Bool, true, false, ◌||◌, List, [], ◌∷◌, ◌++◌, map, Result, Ok, Err, refl, sym, ◌∙◌, ap}
 use Rattle.std.specs.Prelude.{IfOk}
 use Rattle.std.specs.List.{All, flat_map, list_any}
-use Rattle.std.proofs.lemmas.List.{append-nil, map-append}
+use Rattle.std.proofs.lemmas.List.{map-append}
 use Rattle.std.proofs.lemmas.List.Elements.{All-append, All-nil, All-head, All-tail}
 use Rattle.std.proofs.lemmas.List.Folds.{list_any-append}
-use Rattle.base_laws.specs.Firsts.{first_of}
 use Rattle.mq_base.specs.declared.attr_set.AttrSet.{AttrSet}
 use Rattle.mq_base.specs.declared.ids.AttrId.{AttrId}
 use Rattle.mq_base.specs.declared.ids.TableId.{TableId}
@@ -19,15 +18,16 @@ use Rattle.sql_reader.specs.Writable.{IsWritable}
 use Rattle.sql_reader.specs.declared.raw.RawHaving.{RawHaving}
 use Rattle.sql_reader.specs.declared.raw.RawItem.{RawItem}
 use Rattle.sql_reader.specs.declared.raw.RawQuery.{RawQuery}
-use Rattle.sql_reader.specs.Syntax.{Column, Item, Plain, Aggregate, Count, Source, Query, having_of, item_of, query_of}
+use Rattle.sql_reader.specs.Syntax.{Source, Query, having_of, item_of, query_of}
 use Rattle.query_bind.specs.declared.refusal.BindNo.{BindNo}
 use Rattle.query_bind.specs.declared.refusal.BindNo.TheVariants.{Refused, NoMemory}
 use Rattle.query_bind.specs.Bound.{aggs_after, bound_condition, bound_having, bound_item, bound_query, group_set, has_count, is_count}
-use Rattle.query_bind.specs.Faults.{Answers, bare_fault, bare_item_fault, bind_outcome, first_fault, grouped_fault}
+use Rattle.query_bind.specs.Faults.{Answers, bare_fault, bind_outcome, first_fault, grouped_fault}
 use Rattle.query_bind.specs.Lookup.{Use, all_conditions, all_uses, having_use, is_some_column, selected_use, source_conditions, source_tables}
 use Rattle.query_bind.specs.Parts.{staged, uses_part}
 use Rattle.query_bind.specs.Ranges.{ConditionFits, NumbersFit}
 use Rattle.query_bind.specs.Results.{ConditionsFit, HavingsFit, SourcesFit, Tells, numbers, selected_of, selects_count, tested_of, tests_count, uses_of}
+use Rattle.query_bind.proofs.BoundBare.{no_column, bare_aggs}
 use Rattle.query_bind.proofs.BoundLaws.{no_fault_is_bound}
 use Rattle.query_bind.proofs.WalkLaws.{both-parts, query-parts}
 
@@ -68,23 +68,6 @@ uses-same raw = rw (selected_same raw.items, tested_same raw.having) refl
 
 pub ruleset uses = (uses-same)
 
--- without GROUP BY no attribute stands under a function
-plain_aggs : (schema : Schema) (items : List Item) → first_of (map bare_item_fault items) ≡ None
-    → aggs_after schema [] (map selected_use items) ≡ []
-plain_aggs schema [] none = refl
-plain_aggs schema (Plain c ∷ rest) none = plain_aggs schema rest none
-plain_aggs schema (Aggregate func c at ∷ rest) none = cc
-plain_aggs schema (Count at ∷ rest) none = cc
-
-no_column : (group : List Column) → is_some_column group ≡ false → group ≡ []
-no_column [] none = refl
-no_column (c ∷ rest) none = cc
-
-pub bare-aggs : (schema : Schema) (q : Query) → is_some_column q.group ≡ false → (q.group ≡ [] → q.having ≡ []) → bare_fault q ≡ None
-    → aggs_after schema [] (all_uses q) ≡ []
-bare-aggs schema q bare grouped none =
-    rw (grouped (no_column q.group bare), append-nil) (plain_aggs schema q.items none)
-
 pub with-group : (schema : Schema) (group : ℕ) (q : Query) (result : Result (List (AttrId × Agg)) BindNo) → is_some_column q.group ≡ true
     → group ≡ group_set schema q.group → Tells result (grouped_fault schema group q) → Tells result (uses_part schema q)
 unfolding uses_part
@@ -98,7 +81,8 @@ without-group schema q result bare told = rw bare told
 pub without-aggs : (schema : Schema) (q : Query) (result : Result (List (AttrId × Agg)) BindNo) → is_some_column q.group ≡ false
     → (q.group ≡ [] → q.having ≡ []) → Tells result (bare_fault q) → IfOk result (λ aggs. aggs ≡ [])
     → IfOk result (λ aggs. aggs ≡ aggs_after schema [] (all_uses q))
-without-aggs schema q (Ok aggs) bare grouped told none = none ∙ sym (bare-aggs schema q bare grouped told)
+without-aggs schema q (Ok aggs) bare grouped told none =
+    none ∙ sym (bare_aggs schema q told (grouped (no_column q.group bare)))
 without-aggs schema q (Err e) bare grouped told none = tt
 
 -- the count stands in the select list or in HAVING

@@ -60,100 +60,102 @@ fn answer(alloc: Global, schema: &Schema, file: &[u8]) -> Result<Vec<u8>, AllocE
     }
 }
 
+/// Files, each with its values or its refusal.
+const FILES: [(&[u8], &[u8]); 50] = [
+    // No header, or another than the two names in their order.
+    (b"", b"BadHeader"),
+    (b"\n\r\n", b"BadHeader"),
+    (b"1,x\n", b"BadHeader"),
+    (b"a,c\n1,x\n", b"BadHeader"),
+    (b"c,b\n1,x\n", b"BadHeader"),
+    (b"b,a\nx,1\n", b"BadHeader"),
+    (b"a\n1\n", b"BadHeader"),
+    (b"a,b,c\n1,x,y\n", b"BadHeader"),
+    (b"a,b,\n1,x,\n", b"BadHeader"),
+    (b"A,b\n1,x\n", b"BadHeader"),
+    (b"a, b\n1,x\n", b"BadHeader"),
+    // Rows of other lengths.
+    (b"a,b\n1\n", b"BadRow { row: 1 }"),
+    (b"a,b\n1,x\n2\n", b"BadRow { row: 2 }"),
+    (b"a,b\n1,x,\n", b"BadRow { row: 1 }"),
+    (b"a,b\n1,x\n\"\"\n", b"BadRow { row: 2 }"),
+    (b"a,b\nz,x,y\n", b"BadRow { row: 1 }"),
+    // The field in column a is no INT.
+    (b"a,b\nz,x\n1\n", b"BadInt { row: 1, col: 0 }"),
+    (b"a,b\n1,x\nz,y\n", b"BadInt { row: 2, col: 0 }"),
+    (b"a,b\n,x\n", b"BadInt { row: 1, col: 0 }"),
+    (b"a,b\n-,x\n", b"BadInt { row: 1, col: 0 }"),
+    (b"a,b\n+1,x\n", b"BadInt { row: 1, col: 0 }"),
+    (b"a,b\n--1,x\n", b"BadInt { row: 1, col: 0 }"),
+    (b"a,b\n1-,x\n", b"BadInt { row: 1, col: 0 }"),
+    (b"a,b\n 1,x\n", b"BadInt { row: 1, col: 0 }"),
+    (b"a,b\n1 ,x\n", b"BadInt { row: 1, col: 0 }"),
+    (b"a,b\n0x1,x\n", b"BadInt { row: 1, col: 0 }"),
+    (b"a,b\n\xd9\xa1,x\n", b"BadInt { row: 1, col: 0 }"),
+    (
+        b"a,b\n9223372036854775808,x\n",
+        b"BadInt { row: 1, col: 0 }",
+    ),
+    (
+        b"a,b\n-9223372036854775809,x\n",
+        b"BadInt { row: 1, col: 0 }",
+    ),
+    (
+        b"a,b\n18446744073709551617,x\n",
+        b"BadInt { row: 1, col: 0 }",
+    ),
+    (
+        b"a,b\n340282366920938463463374607431768211457,x\n",
+        b"BadInt { row: 1, col: 0 }",
+    ),
+    // The field in column b is too long a TEXT.
+    (
+        b"a,b\n1,xxxxxxxxxxxxxxxxxxxxxxxxxxxxxxxxxxxxxxxxxxxxxxxxxxxxxxxxxxxxxxxxxxxxxxxxxxxxxxxxxxxxxxxxxxxxxxxxxxxxxxxxxxxxxxxxxxxxxxxxx\n",
+        b"TextTooLong { row: 1, col: 1 }",
+    ),
+    (
+        b"a,b\n1,x\n1,xxxxxxxxxxxxxxxxxxxxxxxxxxxxxxxxxxxxxxxxxxxxxxxxxxxxxxxxxxxxxxxxxxxxxxxxxxxxxxxxxxxxxxxxxxxxxxxxxxxxxxxxxxxxxxxxxxxxxxxxx\nz,x\n",
+        b"TextTooLong { row: 2, col: 1 }",
+    ),
+    (
+        b"a,b\nz,xxxxxxxxxxxxxxxxxxxxxxxxxxxxxxxxxxxxxxxxxxxxxxxxxxxxxxxxxxxxxxxxxxxxxxxxxxxxxxxxxxxxxxxxxxxxxxxxxxxxxxxxxxxxxxxxxxxxxxxxx\n",
+        b"BadInt { row: 1, col: 0 }",
+    ),
+    // Files without a fault.
+    (b"a,b", b"//"),
+    (b"a,b\n", b"//"),
+    (
+        b"\xef\xbb\xbfa,b\r\n1,x\r\n-2,y\r\n1,z\r\n",
+        b"1;-2;1;/x;y;z;/",
+    ),
+    (
+        b"a,b\n1,xxxxxxxxxxxxxxxxxxxxxxxxxxxxxxxxxxxxxxxxxxxxxxxxxxxxxxxxxxxxxxxxxxxxxxxxxxxxxxxxxxxxxxxxxxxxxxxxxxxxxxxxxxxxxxxxxxxxxxxx\n",
+        b"1;/xxxxxxxxxxxxxxxxxxxxxxxxxxxxxxxxxxxxxxxxxxxxxxxxxxxxxxxxxxxxxxxxxxxxxxxxxxxxxxxxxxxxxxxxxxxxxxxxxxxxxxxxxxxxxxxxxxxxxxxx;/",
+    ),
+    (b"a,b\n1,\"x,\"\"y\"\"\nz\"\n", b"1;/x,\"y\"\nz;/"),
+    (b"\"a\",\"b\"\n\"-1\",\"\"\n", b"-1;/;/"),
+    (b"a,b\n\n1,x\n\r\n\n2,y", b"1;2;/x;y;/"),
+    (b"a,b\r1,x\r2,y\r", b"1;2;/x;y;/"),
+    (b"a,b\n1,x\n1,x\n", b"1;1;/x;x;/"),
+    (
+        b"a,b\n9223372036854775807,x\n-9223372036854775808,y\n",
+        b"9223372036854775807;-9223372036854775808;/x;y;/",
+    ),
+    (
+        b"a,b\n007,x\n-0,y\n00000000000000000000000000000000000000000,z\n",
+        b"7;0;0;/x;y;z;/",
+    ),
+    (b"a,b\n1,\n", b"1;/;/"),
+    (b"a,b\n1, x \n", b"1;/ x ;/"),
+    (b"a,b\n1,\xff\xfe\n", b"1;/\xff\xfe;/"),
+    (b"a,b\n1,\"x\"y\n", b"1;/xy;/"),
+    (b"a,b\n1,\"x\n", b"1;/x\n;/"),
+];
+
 #[test]
 fn files(rt: HostRuntime) -> Result<(), Fail> {
     let schema = schema(rt.alloc())?;
-    let cases: [(&[u8], &[u8]); 50] = [
-        // No header, or another than the two names in their order.
-        (b"", b"BadHeader"),
-        (b"\n\r\n", b"BadHeader"),
-        (b"1,x\n", b"BadHeader"),
-        (b"a,c\n1,x\n", b"BadHeader"),
-        (b"c,b\n1,x\n", b"BadHeader"),
-        (b"b,a\nx,1\n", b"BadHeader"),
-        (b"a\n1\n", b"BadHeader"),
-        (b"a,b,c\n1,x,y\n", b"BadHeader"),
-        (b"a,b,\n1,x,\n", b"BadHeader"),
-        (b"A,b\n1,x\n", b"BadHeader"),
-        (b"a, b\n1,x\n", b"BadHeader"),
-        // Rows of other lengths.
-        (b"a,b\n1\n", b"BadRow { row: 1 }"),
-        (b"a,b\n1,x\n2\n", b"BadRow { row: 2 }"),
-        (b"a,b\n1,x,\n", b"BadRow { row: 1 }"),
-        (b"a,b\n1,x\n\"\"\n", b"BadRow { row: 2 }"),
-        (b"a,b\nz,x,y\n", b"BadRow { row: 1 }"),
-        // The field in column a is no INT.
-        (b"a,b\nz,x\n1\n", b"BadInt { row: 1, col: 0 }"),
-        (b"a,b\n1,x\nz,y\n", b"BadInt { row: 2, col: 0 }"),
-        (b"a,b\n,x\n", b"BadInt { row: 1, col: 0 }"),
-        (b"a,b\n-,x\n", b"BadInt { row: 1, col: 0 }"),
-        (b"a,b\n+1,x\n", b"BadInt { row: 1, col: 0 }"),
-        (b"a,b\n--1,x\n", b"BadInt { row: 1, col: 0 }"),
-        (b"a,b\n1-,x\n", b"BadInt { row: 1, col: 0 }"),
-        (b"a,b\n 1,x\n", b"BadInt { row: 1, col: 0 }"),
-        (b"a,b\n1 ,x\n", b"BadInt { row: 1, col: 0 }"),
-        (b"a,b\n0x1,x\n", b"BadInt { row: 1, col: 0 }"),
-        (b"a,b\n\xd9\xa1,x\n", b"BadInt { row: 1, col: 0 }"),
-        (
-            b"a,b\n9223372036854775808,x\n",
-            b"BadInt { row: 1, col: 0 }",
-        ),
-        (
-            b"a,b\n-9223372036854775809,x\n",
-            b"BadInt { row: 1, col: 0 }",
-        ),
-        (
-            b"a,b\n18446744073709551617,x\n",
-            b"BadInt { row: 1, col: 0 }",
-        ),
-        (
-            b"a,b\n340282366920938463463374607431768211457,x\n",
-            b"BadInt { row: 1, col: 0 }",
-        ),
-        // The field in column b is too long a TEXT.
-        (
-            b"a,b\n1,xxxxxxxxxxxxxxxxxxxxxxxxxxxxxxxxxxxxxxxxxxxxxxxxxxxxxxxxxxxxxxxxxxxxxxxxxxxxxxxxxxxxxxxxxxxxxxxxxxxxxxxxxxxxxxxxxxxxxxxxx\n",
-            b"TextTooLong { row: 1, col: 1 }",
-        ),
-        (
-            b"a,b\n1,x\n1,xxxxxxxxxxxxxxxxxxxxxxxxxxxxxxxxxxxxxxxxxxxxxxxxxxxxxxxxxxxxxxxxxxxxxxxxxxxxxxxxxxxxxxxxxxxxxxxxxxxxxxxxxxxxxxxxxxxxxxxxx\nz,x\n",
-            b"TextTooLong { row: 2, col: 1 }",
-        ),
-        (
-            b"a,b\nz,xxxxxxxxxxxxxxxxxxxxxxxxxxxxxxxxxxxxxxxxxxxxxxxxxxxxxxxxxxxxxxxxxxxxxxxxxxxxxxxxxxxxxxxxxxxxxxxxxxxxxxxxxxxxxxxxxxxxxxxxx\n",
-            b"BadInt { row: 1, col: 0 }",
-        ),
-        // Files without a fault.
-        (b"a,b", b"//"),
-        (b"a,b\n", b"//"),
-        (
-            b"\xef\xbb\xbfa,b\r\n1,x\r\n-2,y\r\n1,z\r\n",
-            b"1;-2;1;/x;y;z;/",
-        ),
-        (
-            b"a,b\n1,xxxxxxxxxxxxxxxxxxxxxxxxxxxxxxxxxxxxxxxxxxxxxxxxxxxxxxxxxxxxxxxxxxxxxxxxxxxxxxxxxxxxxxxxxxxxxxxxxxxxxxxxxxxxxxxxxxxxxxxx\n",
-            b"1;/xxxxxxxxxxxxxxxxxxxxxxxxxxxxxxxxxxxxxxxxxxxxxxxxxxxxxxxxxxxxxxxxxxxxxxxxxxxxxxxxxxxxxxxxxxxxxxxxxxxxxxxxxxxxxxxxxxxxxxxx;/",
-        ),
-        (b"a,b\n1,\"x,\"\"y\"\"\nz\"\n", b"1;/x,\"y\"\nz;/"),
-        (b"\"a\",\"b\"\n\"-1\",\"\"\n", b"-1;/;/"),
-        (b"a,b\n\n1,x\n\r\n\n2,y", b"1;2;/x;y;/"),
-        (b"a,b\r1,x\r2,y\r", b"1;2;/x;y;/"),
-        (b"a,b\n1,x\n1,x\n", b"1;1;/x;x;/"),
-        (
-            b"a,b\n9223372036854775807,x\n-9223372036854775808,y\n",
-            b"9223372036854775807;-9223372036854775808;/x;y;/",
-        ),
-        (
-            b"a,b\n007,x\n-0,y\n00000000000000000000000000000000000000000,z\n",
-            b"7;0;0;/x;y;z;/",
-        ),
-        (b"a,b\n1,\n", b"1;/;/"),
-        (b"a,b\n1, x \n", b"1;/ x ;/"),
-        (b"a,b\n1,\xff\xfe\n", b"1;/\xff\xfe;/"),
-        (b"a,b\n1,\"x\"y\n", b"1;/xy;/"),
-        (b"a,b\n1,\"x\n", b"1;/x\n;/"),
-    ];
-    for (file, want) in cases {
+    for (file, want) in FILES {
         assert_eq!(rt; answer(rt.alloc(), &schema, file)?.as_slice(), want);
     }
     Ok(())

@@ -77,84 +77,57 @@ pub fn refused(file: FileRole, code: u16, at: u64, item: u64) -> Status {
     })
 }
 
-// Each row has the policy, the query and the table, the status, and what is written.
+// Policies, queries and tables, each with its status and what is written.
+const REPORTS: [((&str, &str), &str, &str, Status, &str); 6] = [
+    (
+        (FRONT, PLAIN_A),
+        "select a from r",
+        ROWS,
+        Status::Done,
+        REPORT,
+    ),
+    (
+        (FRONT, PLAIN_A),
+        "select a from r",
+        "a,b\n",
+        Status::Done,
+        "plan [[\"base\",\"r\"],[\"send\",\"U\"]]\nanswer\na\n",
+    ),
+    (
+        (FRONT, SEALED_B),
+        "select b from r",
+        ROWS,
+        Status::NoPlan,
+        "cost none\n",
+    ),
+    (
+        (FRONT, PLAIN_BOTH),
+        "SELECT b, a FROM r\n",
+        ROWS,
+        Status::Done,
+        "plan [[\"base\",\"r\"],[\"send\",\"U\"]]\nanswer\nb,a\nx,1\ny,-2\nz,1\n",
+    ),
+    (
+        (FRONT, PLAIN_A),
+        "sElEcT a , a fRoM r\r\n",
+        ROWS,
+        Status::Done,
+        "plan [[\"base\",\"r\"],[\"send\",\"U\"]]\nanswer\na,a\n-2,-2\n1,1\n1,1\n",
+    ),
+    (
+        (OWNED, ""),
+        "select a, b from r",
+        ROWS,
+        Status::Done,
+        "plan [[\"base\",\"r\"]]\nanswer\na,b\n-2,y\n1,x\n1,z\n",
+    ),
+];
+
 #[test]
 fn rows_give_their_reports(rt: HostRuntime) -> Result<(), Fail> {
     let alloc = rt.alloc();
     let given = words(alloc, &RUN)?;
-    let rows = [
-        (
-            (FRONT, PLAIN_A),
-            "select a from r",
-            ROWS,
-            Status::Done,
-            REPORT,
-        ),
-        (
-            (FRONT, PLAIN_A),
-            "select a from r",
-            "a,b\n",
-            Status::Done,
-            "plan [[\"base\",\"r\"],[\"send\",\"U\"]]\nanswer\na\n",
-        ),
-        (
-            (FRONT, SEALED_B),
-            "select b from r",
-            ROWS,
-            Status::NoPlan,
-            "cost none\n",
-        ),
-        (
-            (FRONT, PLAIN_BOTH),
-            "SELECT b, a FROM r\n",
-            ROWS,
-            Status::Done,
-            "plan [[\"base\",\"r\"],[\"send\",\"U\"]]\nanswer\nb,a\nx,1\ny,-2\nz,1\n",
-        ),
-        (
-            (FRONT, PLAIN_A),
-            "sElEcT a , a fRoM r\r\n",
-            ROWS,
-            Status::Done,
-            "plan [[\"base\",\"r\"],[\"send\",\"U\"]]\nanswer\na,a\n-2,-2\n1,1\n1,1\n",
-        ),
-        (
-            (OWNED, ""),
-            "select a, b from r",
-            ROWS,
-            Status::Done,
-            "plan [[\"base\",\"r\"]]\nanswer\na,b\n-2,y\n1,x\n1,z\n",
-        ),
-        (
-            ("version =", ""),
-            "select a from r",
-            ROWS,
-            refused(FileRole::Policy, 1, 0, 0),
-            "",
-        ),
-        (
-            (FRONT, "plain = [\"a\"]\nsealed = [\"b\", \"a\"]\n"),
-            "select",
-            ROWS,
-            refused(FileRole::Policy, 9, 0, 2),
-            "",
-        ),
-        (
-            (FRONT, PLAIN_A),
-            "select z from r",
-            "a",
-            refused(FileRole::Query, 13, 7, 0),
-            "",
-        ),
-        (
-            (FRONT, PLAIN_A),
-            "select a from r",
-            "a,b\n1,x\nz,y\n",
-            refused(FileRole::Table(TableId(0)), 3, 2, 0),
-            "",
-        ),
-    ];
-    for (policy, query, table, want, written) in rows {
+    for (policy, query, table, want, written) in REPORTS {
         let mut shelf = MemoryShelf::of(files(alloc, policy, query, table)?, Seq::new(alloc));
         let mut sink = MemorySink::of(alloc, Seq::new(alloc));
         let status = run(alloc, given.as_slice(), &mut shelf, &mut sink);
@@ -164,64 +137,109 @@ fn rows_give_their_reports(rt: HostRuntime) -> Result<(), Fail> {
     Ok(())
 }
 
+// Each row has the policy, the query and the table, and the refusal of one of them; nothing is written.
+#[test]
+fn the_first_refused_file_decides(rt: HostRuntime) -> Result<(), Fail> {
+    let alloc = rt.alloc();
+    let given = words(alloc, &RUN)?;
+    let overlap = "plain = [\"a\"]\nsealed = [\"b\", \"a\"]\n";
+    let wrong_row = "a,b\n1,x\nz,y\n";
+    let t = FileRole::Table(TableId(0));
+    for (policy, query, table, want) in [
+        (
+            ("version =", ""),
+            "",
+            ROWS,
+            refused(FileRole::Policy, 1, 0, 0),
+        ),
+        (
+            (FRONT, overlap),
+            "select",
+            ROWS,
+            refused(FileRole::Policy, 9, 0, 2),
+        ),
+        (
+            (FRONT, PLAIN_A),
+            "select z from r",
+            "a",
+            refused(FileRole::Query, 13, 7, 0),
+        ),
+        (
+            (FRONT, PLAIN_A),
+            "select a from r",
+            wrong_row,
+            refused(t, 3, 2, 0),
+        ),
+    ] {
+        let mut shelf = MemoryShelf::of(files(alloc, policy, query, table)?, Seq::new(alloc));
+        let mut sink = MemorySink::of(alloc, Seq::new(alloc));
+        let status = run(alloc, given.as_slice(), &mut shelf, &mut sink);
+        assert_eq!(rt; status, want, "{query}");
+        assert_eq!(rt; sink.written().len(), 0, "{query}");
+    }
+    Ok(())
+}
+
+// Policies, each with its code and places.
+const POLICIES: [((&str, &str), (u16, u64, u64)); 11] = [
+    (("version =", ""), (1, 0, 0)),
+    (
+        (
+            "version = 1\nuser = \"U\"\nsubjects = [\"O\", \"U\", \"any\"]\n",
+            TABLE_OF_O,
+        ),
+        (3, 2, 0),
+    ),
+    (
+        (
+            "version = 1\nuser = \"U\"\nsubjects = [\"U\"]\n",
+            TABLE_OF_O,
+        ),
+        (5, 0, 0),
+    ),
+    (
+        (
+            "version = 1\nuser = \"O\"\nsubjects = [\"O\"]\n",
+            "[[table]]\nname = \"r\"\nowner = \"O\"\ncolumns = [{ name = \"a\", type = \"INT\" }]\n[[table]]\nname = \"s\"\nowner = \"P\"\ncolumns = [{ name = \"b\", type = \"INT\" }]\n",
+        ),
+        (5, 1, 0),
+    ),
+    (
+        (FRONT, "[[rule]]\ntable = \"z\"\nsubject = \"U\"\n"),
+        (7, 1, 0),
+    ),
+    ((FRONT, "plain = [\"z\"]\n"), (8, 0, 0)),
+    (
+        (FRONT, "plain = [\"a\"]\nsealed = [\"b\", \"a\"]\n"),
+        (9, 0, 2),
+    ),
+    (
+        (FRONT, "[[rule]]\ntable = \"r\"\nsubject = \"O\"\n"),
+        (10, 1, 0),
+    ),
+    (
+        (OWNED, "[[rule]]\ntable = \"r\"\nsubject = \"O\"\n"),
+        (10, 0, 0),
+    ),
+    (
+        (FRONT, "[[rule]]\ntable = \"r\"\nsubject = \"U\"\n"),
+        (11, 1, 0),
+    ),
+    (
+        (
+            FRONT,
+            "[[rule]]\ntable = \"r\"\nsubject = \"any\"\n[[rule]]\ntable = \"r\"\nsubject = \"any\"\n",
+        ),
+        (11, 2, 0),
+    ),
+];
+
 // Each row has a policy that is refused, and the code with its places; nothing else is looked at.
 #[test]
 fn policies_are_refused(rt: HostRuntime) -> Result<(), Fail> {
     let alloc = rt.alloc();
     let given = words(alloc, &RUN)?;
-    let rows = [
-        (("version =", ""), (1, 0, 0)),
-        (
-            (
-                "version = 1\nuser = \"U\"\nsubjects = [\"O\", \"U\", \"any\"]\n",
-                TABLE_OF_O,
-            ),
-            (3, 2, 0),
-        ),
-        (
-            (
-                "version = 1\nuser = \"U\"\nsubjects = [\"U\"]\n",
-                TABLE_OF_O,
-            ),
-            (5, 0, 0),
-        ),
-        (
-            (
-                "version = 1\nuser = \"O\"\nsubjects = [\"O\"]\n",
-                "[[table]]\nname = \"r\"\nowner = \"O\"\ncolumns = [{ name = \"a\", type = \"INT\" }]\n[[table]]\nname = \"s\"\nowner = \"P\"\ncolumns = [{ name = \"b\", type = \"INT\" }]\n",
-            ),
-            (5, 1, 0),
-        ),
-        (
-            (FRONT, "[[rule]]\ntable = \"z\"\nsubject = \"U\"\n"),
-            (7, 1, 0),
-        ),
-        ((FRONT, "plain = [\"z\"]\n"), (8, 0, 0)),
-        (
-            (FRONT, "plain = [\"a\"]\nsealed = [\"b\", \"a\"]\n"),
-            (9, 0, 2),
-        ),
-        (
-            (FRONT, "[[rule]]\ntable = \"r\"\nsubject = \"O\"\n"),
-            (10, 1, 0),
-        ),
-        (
-            (OWNED, "[[rule]]\ntable = \"r\"\nsubject = \"O\"\n"),
-            (10, 0, 0),
-        ),
-        (
-            (FRONT, "[[rule]]\ntable = \"r\"\nsubject = \"U\"\n"),
-            (11, 1, 0),
-        ),
-        (
-            (
-                FRONT,
-                "[[rule]]\ntable = \"r\"\nsubject = \"any\"\n[[rule]]\ntable = \"r\"\nsubject = \"any\"\n",
-            ),
-            (11, 2, 0),
-        ),
-    ];
-    for (policy, (code, at, item)) in rows {
+    for (policy, (code, at, item)) in POLICIES {
         let mut shelf = MemoryShelf::of(files(alloc, policy, "", "")?, Seq::new(alloc));
         let mut sink = MemorySink::of(alloc, Seq::new(alloc));
         let status = run(alloc, given.as_slice(), &mut shelf, &mut sink);
