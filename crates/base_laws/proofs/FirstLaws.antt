@@ -1,7 +1,9 @@
 -- Laws of the first fault: what a search for it keeps from place to place, and what it finds.
-use Rattle.std.proofs.Common.{◌≡◌, ℕ, zero, suc, ◌+◌, ◌-◌, ◌<◌, ◌≤◌, Option, Some, None, List, [], ◌∷◌, map, All, refl, arith, add-one, ◌⊎◌, inl, inr}
+use Rattle.std.proofs.Common.{◌≡◌, ℕ, zero, suc, ◌+◌, ◌-◌, ◌<◌, ◌≤◌, Option, Some, None, List, [], ◌∷◌, ◌++◌, length, get_or, take, drop, map, flat_map, All, refl, arith, add-one, ◌⊎◌, inl, inr}
+use Rattle.std.specs.Option.{option_or}
+use Rattle.std.proofs.lemmas.List.{drop_all, drop_more, map-append, map_more}
 use Rattle.std.proofs.lemmas.List.Elements.{All-nil, All-cons}
-use Rattle.base_laws.specs.Firsts.{or_else, first_at, first_of, IsFirstAt}
+use Rattle.base_laws.specs.Firsts.{first_at, first_behind, first_of, IsFirstAt, IsTold}
 
 -- where a place passes, the places after it decide
 pub first_at-more : {F : Type 0} (test : ℕ → Option F) (at n : ℕ) → at < n → test at ≡ None
@@ -35,7 +37,7 @@ at_each P start k low here later = by_place (this_or_later k start low)
     by_place (inr after) = later after
 
 -- where there is no fault at all, neither part has one
-pub none_left : {F : Type 0} (here rest : Option F) → or_else here rest ≡ None → (here ≡ None) × (rest ≡ None)
+pub none_left : {F : Type 0} (here rest : Option F) → option_or here rest ≡ None → (here ≡ None) × (rest ≡ None)
 none_left None rest none = (refl, none)
 none_left (Some fault) rest none = cc
 
@@ -67,7 +69,7 @@ found_here test start n fault found = record {
   before = λ k low high. absurd (omega arith);
 }
 
-one_of_both : {F : Type 0} (here rest : Option F) (fault : F) → or_else here rest ≡ Some fault
+one_of_both : {F : Type 0} (here rest : Option F) (fault : F) → option_or here rest ≡ Some fault
     → (here ≡ Some fault) ⊎ ((here ≡ None) × (rest ≡ Some fault))
 one_of_both None rest fault found = inr (refl, found)
 one_of_both (Some first) rest fault found = inl found
@@ -92,3 +94,67 @@ first_of-none test [] none = All-nil (λ x. test x ≡ None)
 first_of-none test (x ∷ xs) none =
     let parts = none_left (test x) (first_of (map test xs)) none in
     All-cons (λ y. test y ≡ None) x xs parts.0 (first_of-none test xs parts.1)
+
+-- what is told of a part is told of the whole, where the first fault of the part is that of the whole
+pub told-on : {F : Type 0} (told part whole : Option F) → ((fault : F) → part ≡ Some fault → whole ≡ Some fault)
+    → IsTold told part → IsTold told whole
+told-on None part whole on is = tt
+told-on (Some fault) part whole on is = on fault is
+
+-- the first fault of joined lists
+pub first_of-append : {F : Type 0} (left right : List (Option F)) → first_of (left ++ right) ≡ option_or (first_of left) (first_of right)
+first_of-append [] right = refl
+first_of-append (None ∷ rest) right = first_of-append rest right
+first_of-append (Some fault ∷ rest) right = refl
+
+pub first-append : {X F : Type 0} (test : X → Option F) (left right : List X)
+    → first_of (map test (left ++ right)) ≡ option_or (first_of (map test left)) (first_of (map test right))
+first-append test left right = rw (map-append test left right) (first_of-append (map test left) (map test right))
+
+-- past an item that passes, the items after it decide; one that does not has the first fault
+pub one-more : {X Y F : Type 0} (test : Y → Option F) (plain : X → Y) (xs : List X) (i : ℕ) (d : X)
+    → i < length xs → test (plain (get_or xs i d)) ≡ None
+    → first_of (map test (map plain (drop i xs))) ≡ first_of (map test (map plain (drop (i + 1) xs)))
+one-more test plain xs i d below passes = rw (drop_more xs i d below, passes) refl
+
+pub one-stop : {X Y F : Type 0} (test : Y → Option F) (plain : X → Y) (xs : List X) (i : ℕ) (d : X) (fault : F)
+    → i < length xs → test (plain (get_or xs i d)) ≡ Some fault
+    → first_of (map test (map plain (drop i xs))) ≡ Some fault
+one-stop test plain xs i d fault below found = rw (drop_more xs i d below, found) refl
+
+pub one-end : {X Y F : Type 0} (test : Y → Option F) (plain : X → Y) (xs : List X) (i : ℕ)
+    → length xs ≤ i → first_of (map test (map plain (drop i xs))) ≡ None
+one-end test plain xs i past = rw (drop_all i xs past) refl
+
+-- the same where each item has parts, which are tested
+pub pieces-more : {X Y F : Type 0} (test : Y → Option F) (parts : X → List Y) (xs : List X) (i : ℕ) (d : X)
+    → i < length xs → first_of (map test (parts (get_or xs i d))) ≡ None
+    → first_of (map test (flat_map parts (drop i xs))) ≡ first_of (map test (flat_map parts (drop (i + 1) xs)))
+pieces-more test parts xs i d below passes =
+    rw (drop_more xs i d below, first-append test (parts (get_or xs i d)) (flat_map parts (drop (i + 1) xs)), passes) refl
+
+pub pieces-stop : {X Y F : Type 0} (test : Y → Option F) (parts : X → List Y) (xs : List X) (i : ℕ) (d : X) (fault : F)
+    → i < length xs → first_of (map test (parts (get_or xs i d))) ≡ Some fault
+    → first_of (map test (flat_map parts (drop i xs))) ≡ Some fault
+pieces-stop test parts xs i d fault below found =
+    rw (drop_more xs i d below, first-append test (parts (get_or xs i d)) (flat_map parts (drop (i + 1) xs)), found) refl
+
+pub pieces-end : {X Y F : Type 0} (test : Y → Option F) (parts : X → List Y) (xs : List X) (i : ℕ)
+    → length xs ≤ i → first_of (map test (flat_map parts (drop i xs))) ≡ None
+pieces-end test parts xs i past = rw (drop_all i xs past) refl
+
+-- the same where each item is tested behind those before it
+pub behind-more : {X Y F : Type 0} (test : List Y → Y → Option F) (plain : X → Y) (xs : List X) (i : ℕ) (d : X)
+    → i < length xs → test (map plain (take i xs)) (plain (get_or xs i d)) ≡ None
+    → first_behind test (map plain (take i xs)) (map plain (drop i xs))
+    ≡ first_behind test (map plain (take (i + 1) xs)) (map plain (drop (i + 1) xs))
+behind-more test plain xs i d below passes = rw (drop_more xs i d below, passes, map_more plain xs i d below) refl
+
+pub behind-stop : {X Y F : Type 0} (test : List Y → Y → Option F) (plain : X → Y) (xs : List X) (i : ℕ) (d : X) (fault : F)
+    → i < length xs → test (map plain (take i xs)) (plain (get_or xs i d)) ≡ Some fault
+    → first_behind test (map plain (take i xs)) (map plain (drop i xs)) ≡ Some fault
+behind-stop test plain xs i d fault below found = rw (drop_more xs i d below, found) refl
+
+pub behind-end : {X Y F : Type 0} (test : List Y → Y → Option F) (plain : X → Y) (xs : List X) (i : ℕ)
+    → length xs ≤ i → first_behind test (map plain (take i xs)) (map plain (drop i xs)) ≡ None
+behind-end test plain xs i past = rw (drop_all i xs past) refl

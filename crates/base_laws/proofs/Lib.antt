@@ -1,5 +1,9 @@
+pub mod BoolLaws
+pub mod FilterLaws
 pub mod FirstLaws
 pub mod ListLaws
 pub mod OrderLaws
 pub mod SetLaws
 pub mod SortLaws
+pub mod MemberLaws
+pub mod KindLaws

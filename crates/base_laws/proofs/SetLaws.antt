@@ -1,13 +1,13 @@
 -- Laws of sets as numbers: membership in what is made of sets, and inclusion.
-use Rattle.std.proofs.Common.{◌≡◌, ◌≢◌, ℕ, zero, suc, ◌^◌, ◌+◌, ◌%◌, ◌<◌, ◌==◌, List, [], ◌∷◌, Bool, true, false, ◌||◌, ◌&&◌, not, min, max, bit_and, bit_or, refl, sym, ◌∙◌, arith, ◌⊎◌, inl, inr}
+use Rattle.std.proofs.Common.{◌≡◌, ◌≢◌, ℕ, zero, suc, ◌^◌, ◌+◌, ◌%◌, ◌<◌, ◌==◌, List, [], ◌∷◌, Bool, true, false, ◌||◌, ◌&&◌, not, min, max, bit_and, bit_or, filter, cond, ap, refl, sym, ◌∙◌, arith, ◌⊎◌, inl, inr}
 use Rattle.std.specs.Prelude.{IsTrue}
 use Rattle.std.specs.Int.{bit_at, trailing_zeros, w64}
-use Rattle.std.specs.List.{list_any}
+use Rattle.std.specs.List.{list_any, list_all, range_with_len, AllByRecursion}
 use Rattle.std.proofs.lemmas.Nat.Bits.{bit_at_or, bit_at_and, bit_at_xor, bit_at-lt, bit_at-pow_same, bit_at-pow_other, bit_at-zero, bit_at-trailing_zeros, same_from_bits}
 use Rattle.std.proofs.lemmas.Bool.{eqb-false, eqb-true}
 use Rattle.std.proofs.lemmas.Bool.Decides.{nat_tests}
 use Rattle.base_laws.specs.Folds.{union_to}
-use Rattle.base_laws.specs.Sets.{has, with_member, with_members, without, IsWithin, is_within, IsLeastMember}
+use Rattle.base_laws.specs.Sets.{has, members, with_member, with_members, without, IsWithin, is_within, IsLeastMember}
 
 bit_is : (b : ℕ) → b < 2 → (b ≡ 0) ⊎ (b ≡ 1)
 bit_is b small = grind arith
@@ -154,3 +154,35 @@ has-with_members set [] i = or_none (has set i)
 has-with_members set (k ∷ rest) i =
     has-with_members (with_member set k) rest i
     ∙ rw (has-bit_or set (2 ^ k) i, has-single k i) (or_assoc (has set i) (k == i) (list_any (λ k. k == i) rest))
+
+-- a test is the same over the members where it is so at each
+list_all_members_of : (set : ℕ) (p q : ℕ → Bool) → ((a : ℕ) → has set a ≡ true → p a ≡ q a) → (xs : List ℕ)
+    → list_all p (filter (has set) xs) ≡ list_all q (filter (has set) xs)
+list_all_members_of set p q agree [] = refl
+list_all_members_of set p q agree (a ∷ xs) = by_test (has set a) refl (list_all_members_of set p q agree xs)
+  where
+    by_test : (b : Bool) → has set a ≡ b → list_all p (filter (has set) xs) ≡ list_all q (filter (has set) xs)
+        → list_all p (cond b (a ∷ filter (has set) xs) (filter (has set) xs))
+        ≡ list_all q (cond b (a ∷ filter (has set) xs) (filter (has set) xs))
+    by_test true inside rest = rw (agree a inside) (ap (λ c. q a && c) rest)
+    by_test false outside rest = rest
+
+pub list_all-members : (set : ℕ) (p q : ℕ → Bool) → ((a : ℕ) → has set a ≡ true → p a ≡ q a)
+    → list_all p (members set) ≡ list_all q (members set)
+unfolding members
+list_all-members set p q agree = list_all_members_of set p q agree (range_with_len 0 64)
+
+-- a member stays one where members are added, and each that is added is one
+pub with_members-keeps : (set i : ℕ) (members : List ℕ) → has set i ≡ true → has (with_members set members) i ≡ true
+with_members-keeps set i members inside = rw (has-with_members, inside) refl
+
+pub with_members-each : (set : ℕ) (members : List ℕ) → AllByRecursion (λ i. has (with_members set members) i ≡ true) members
+with_members-each set [] = tt
+with_members-each set (k ∷ rest) = (
+  with_members-keeps (with_member set k) k rest (rw (has-bit_or, has-single_same) (or_true (has set k))),
+  with_members-each (with_member set k) rest,
+)
+  where
+    or_true : (b : Bool) → (b || true) ≡ true
+    or_true true = refl
+    or_true false = refl

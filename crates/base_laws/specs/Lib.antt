@@ -1,4 +1,5 @@
 pub mod Firsts
 pub mod Folds
+pub mod Lists
 pub mod Sets
 pub mod Sorting

@@ -1,7 +1,8 @@
 -- Sets of small numbers, each written as one number: i is a member where bit i is 1.
 -- Union is `bit_or`, what is common to two sets is `bit_and`, and the set of i alone is 2 ^ i.
-use Rattle.std.specs.Prelude.{◌≡◌, ℕ, ◌^◌, ◌<◌, ◌==◌, Bool, true, false, List, [], ◌∷◌, bit_and, bit_or, bit_xor}
+use Rattle.std.specs.Prelude.{◌≡◌, ℕ, ◌^◌, ◌<◌, ◌==◌, Bool, true, false, List, [], ◌∷◌, filter, bit_and, bit_or, bit_xor}
 use Rattle.std.specs.Int.{bit_at}
+use Rattle.std.specs.List.{range_with_len}
 
 -- whether i is a member of the set
 abbrev pub has : ℕ → ℕ → Bool
@@ -32,3 +33,7 @@ pub record IsLeastMember (set i : ℕ) : Type 0 where
 abbrev pub with_members : ℕ → List ℕ → ℕ
 with_members set [] = set
 with_members set (i ∷ rest) = with_members (with_member set i) rest
+
+-- the members below 64, in ascending order
+unfoldable pub members : ℕ → List ℕ
+members set = filter (has set) (range_with_len 0 64)

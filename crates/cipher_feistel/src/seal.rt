@@ -48,6 +48,3 @@ pub fn unseal_into(key: &[u8; 32], cell: &[u8], out: &mut [u8])
         turn_back(key, round, left, right);
     }
 }
-
-#[cfg(test)]
-mod tests;

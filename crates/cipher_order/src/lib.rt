@@ -5,7 +5,5 @@
 mod earlier;
 mod heights;
 mod seal;
-#[cfg(test)]
-mod tests;
 
 pub use seal::{NotSealed, seal_into, unseal_into};

@@ -5,7 +5,5 @@
 
 mod cell;
 mod stream;
-#[cfg(test)]
-mod tests;
 
 pub use cell::{seal_into, unseal_into};

@@ -1,5 +1,5 @@
--- The meaning of a query and the number of its nodes, computed for one that joins, groups and keeps by HAVING.
-use Rattle.std.proofs.Common.{◌≡◌, ℕ, zero, suc, pos, true, false, List, [], ◌∷◌, codes, refl}
+-- The number of nodes and the used attributes of a query that joins, groups and keeps by HAVING, computed.
+use Rattle.std.proofs.Common.{◌≡◌, ℕ, pos, true, false, List, [], ◌∷◌, codes, refl}
 use Rattle.mq_base.specs.declared.ids.AttrId.{AttrId}
 use Rattle.mq_base.specs.declared.ids.TableId.{TableId}
 use Rattle.mq_base.specs.declared.query.Agg.TheVariants as agg
@@ -14,8 +14,7 @@ use Rattle.mq_base.specs.declared.value.ValueType.{ValueType}
 use Rattle.mq_base.specs.declared.value.ValueType.TheVariants as type
 use Rattle.mq_base.specs.declared.value.Value.{Value}
 use Rattle.mq_base.specs.declared.value.Value.TheVariants.{Int, Text}
-use Rattle.mq_base.specs.Meaning.{Contents, query_rows}
-use Rattle.mq_base.specs.Nodes.{node_count}
+use Rattle.mq_base.specs.Nodes.{node_count, used_set, visible_set}
 
 abbrev attribute : ℕ → AttrId
 attribute a = record { 0 = a }
@@ -35,18 +34,6 @@ schema = record {
       ∷ column (codes "T") type.Text 0 ∷ column (codes "C") type.Int 1 ∷ column (codes "P") type.Int 1 ∷ [];
 }
 
-abbrev patient : ℕ → ℕ → List ℕ → List ℕ → List Value
-patient s b d t = Int (pos s) ∷ Int (pos b) ∷ Text d ∷ Text t ∷ []
-
-abbrev customer : ℕ → ℕ → List Value
-customer c p = Int (pos c) ∷ Int (pos p) ∷ []
-
-abbrev contents : Contents
-contents zero =
-    patient 1 1970 (codes "stroke") (codes "tpa") ∷ patient 2 1981 (codes "stroke") (codes "surgery")
-    ∷ patient 3 1960 (codes "flu") (codes "rest") ∷ patient 4 1955 (codes "stroke") (codes "tpa") ∷ []
-contents (suc t) = customer 1 80 ∷ customer 2 100 ∷ customer 4 70 ∷ customer 9 500 ∷ []
-
 -- SELECT T, SUM(P) FROM Hosp JOIN Ins ON S = C WHERE D = 'stroke' GROUP BY T HAVING SUM(P) > 100
 abbrev query : Query
 query = record {
@@ -60,11 +47,14 @@ query = record {
   having = having.Const (attribute 5) cmp.Gt (Int (pos 100)) ∷ [];
 }
 
-pub rows_computed : query_rows schema query contents ≡ (Text (codes "tpa") ∷ Int (pos 150) ∷ []) ∷ []
-unfolding query_rows
-rows_computed = refl
-
 -- two tables, the join, the selection, the group and the selection of HAVING
 pub nodes_computed : node_count schema query ≡ 6
 unfolding node_count
 nodes_computed = refl
+
+-- D, T, S, P and C are named, and the group leaves T and P visible
+pub used_computed : used_set query ≡ 61
+used_computed = refl
+
+pub visible_computed : visible_set query ≡ 40
+visible_computed = refl

@@ -43,14 +43,14 @@ pub record HaveOneType (schema : Schema) (a b : AttrId) : Type 0 where
   pub right : type_at schema b.0 ≡ Some ty
 
 -- the attribute is one of the query's tables
-abbrev pub IsUsed : Schema → List TableId → AttrId → Type 0
-IsUsed schema tables a = is_of_some schema tables a ≡ true
+abbrev pub IsOfTables : Schema → List TableId → AttrId → Type 0
+IsOfTables schema tables a = is_of_some schema tables a ≡ true
 
 -- a condition names attributes of the query's tables: one and a constant of its type, or two of one type
 abbrev pub IsBoundCond : Schema → List TableId → Cond → Type 0
-IsBoundCond schema tables (cond.Const a op x) = IsUsed schema tables a × MayHold schema a x
+IsBoundCond schema tables (cond.Const a op x) = IsOfTables schema tables a × MayHold schema a x
 IsBoundCond schema tables (cond.Attrs a op b) =
-    IsUsed schema tables a × IsUsed schema tables b × (a ≢ b) × HaveOneType schema a b
+    IsOfTables schema tables a × IsOfTables schema tables b × (a ≢ b) × HaveOneType schema a b
 
 -- the attribute stands under a function
 abbrev pub IsAggregated : List (AttrId × Agg) → AttrId → Type 0
@@ -58,7 +58,7 @@ IsAggregated aggs a = (func : Agg) × (place : ℕ) × (slice_get aggs place ≡
 
 -- an item without GROUP BY: an attribute of the query's tables
 abbrev pub IsBareItem : Schema → Query → Item → Type 0
-IsBareItem schema q (item.Attr a) = IsUsed schema q.tables a
+IsBareItem schema q (item.Attr a) = IsOfTables schema q.tables a
 IsBareItem schema q item.Count = ⊥
 
 -- an item with GROUP BY: a grouped attribute, one under a function, or the count
@@ -74,7 +74,7 @@ IsSummable schema a agg.Max = Unit {0}
 
 -- an attribute under a function: one of the query's tables that is not grouped
 pub record IsBoundAgg (schema : Schema) (q : Query) (p : AttrId × Agg) : Type 0 where
-  pub used : IsUsed schema q.tables p.0
+  pub used : IsOfTables schema q.tables p.0
   pub ungrouped : has q.group.0 p.0.0 ≡ false
   pub summable : IsSummable schema p.0 p.1
 
@@ -95,7 +95,7 @@ pub record IsBare (schema : Schema) (q : Query) : Type 0 where
 -- one function
 pub record IsGrouped (schema : Schema) (q : Query) : Type 0 where
   pub some : q.group.0 ≢ 0
-  pub group : (a : ℕ) → has q.group.0 a ≡ true → IsUsed schema q.tables (record { 0 = a })
+  pub group : (a : ℕ) → has q.group.0 a ≡ true → IsOfTables schema q.tables (record { 0 = a })
   pub items : All (IsGroupedItem q) q.items
   pub aggs : All (IsBoundAgg schema q) q.aggs
   pub once : AreDistinct (map (λ p. p.0.0) q.aggs)

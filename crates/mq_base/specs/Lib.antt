@@ -5,4 +5,4 @@ pub mod Table
 pub mod ValueLaws
 pub mod Nodes
 pub mod BoundQuery
-pub mod Meaning
+pub mod Refusal

@@ -57,12 +57,15 @@ aggregated aggs = map (λ p. p.0.0) aggs
 abbrev pub selected_set : List Item → ℕ
 selected_set items = with_members 0 (filter_map item_attribute items)
 
+-- the set of the used attributes, which are all that the query names: selected, compared, grouped or under a function
+abbrev pub used_set : Query → ℕ
+used_set q =
+    with_members (with_members (with_members q.group.0 (filter_map item_attribute q.items)) (flat_map cond_attributes q.conds)) (aggregated q.aggs)
+
 -- the set of the attributes that are visible before the selected ones are kept: with GROUP BY the grouped ones and those
--- under a function, and else all that the query names
+-- under a function, and else all used ones
 abbrev pub visible_set : Query → ℕ
-visible_set q =
-    if q.grouped then with_members q.group.0 (aggregated q.aggs)
-    else with_members (selected_set q.items) (flat_map cond_attributes q.conds)
+visible_set q = if q.grouped then with_members q.group.0 (aggregated q.aggs) else used_set q
 
 -- whether a projection ends the plan
 abbrev pub projects : Query → Bool

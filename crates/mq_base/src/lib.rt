@@ -8,11 +8,10 @@ mod ids;
 mod memory;
 mod plan;
 mod query;
+mod refusal;
 mod schema;
 mod seq;
 mod table;
-#[cfg(test)]
-mod tests;
 mod text;
 mod value;
 
@@ -21,6 +20,7 @@ pub use ids::{AttrId, NodeId, SubjectId, TableId};
 pub use memory::NoMemory;
 pub use plan::{Plan, PlanNode, PlanOp, Step};
 pub use query::{Agg, CmpOp, Cond, Having, Item, Query};
+pub use refusal::{Refusal, Refusing};
 pub use schema::{AttrInfo, Schema, TableInfo};
 pub use seq::Seq;
 pub use table::{PlainTable, Scheme, Transfer};

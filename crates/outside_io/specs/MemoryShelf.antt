@@ -1,9 +1,10 @@
 -- The parts of the shelf in memory that its clauses name.
 use Rattle.std.specs.Prelude.{ℕ, List}
 use Rattle.outside_io.specs.declared.memory_shelf.MemoryShelf.{MemoryShelf}
+use Rattle.outside_io.specs.Outside.{Files}
 
 -- its files, a name and bytes each
-abbrev pub files_of : MemoryShelf → List (List ℕ × List ℕ)
+abbrev pub files_of : MemoryShelf → Files
 files_of shelf = shelf.files
 
 -- the numbers of the calls that are to fail

@@ -7,7 +7,7 @@ use Rattle.outside_io.specs.declared.shelf.ShelfNo.{ShelfNo}
 use Rattle.outside_io.specs.declared.shelf.ShelfNo.TheVariants as shelf
 use Rattle.outside_io.specs.declared.sink.SinkNo.{SinkNo}
 use Rattle.outside_io.specs.declared.sink.SinkNo.TheVariants as sink
-use Rattle.outside_io.specs.Outside.{content_of}
+use Rattle.outside_io.specs.Outside.{Files, content_of}
 
 -- the number of the call after so many: calls are numbered from 1, and the count stays at its last value
 abbrev pub next_call : ℕ → ℕ
@@ -19,7 +19,7 @@ answer_within None most = Err shelf.Failed
 answer_within (Some bytes) most = if nat_lt most (length bytes) then Err shelf.TooLong else Ok bytes
 
 -- what the call with this number answers: it fails where it is listed
-abbrev pub scripted_answer : List ℕ → ℕ → List (List ℕ × List ℕ) → List ℕ → ℕ → Result (List ℕ) ShelfNo
+abbrev pub scripted_answer : List ℕ → ℕ → Files → List ℕ → ℕ → Result (List ℕ) ShelfNo
 scripted_answer failing call files name most =
     if list_any (λ number. number == call) failing then Err shelf.Failed else answer_within (content_of files name) most
 

@@ -22,8 +22,8 @@ pub struct DirShelf<'a, R> {
 impl<'a, R: Files> DirShelf<'a, R> {
     /// A shelf over the files that the runtime gives. It takes no memory.
     pub fn new(files: &'a R) -> DirShelf<'a, R>
-        ensures no_faults { ⟦<DirShelf<'a, R> as Shelf>⟧.faults result ≡ 0 }
-        ensures no_name { ⟦<DirShelf<'a, R> as Shelf>⟧.failed result ≡ None }
+        ensures no_faults { (⟦<DirShelf<'a, R> as Shelf>⟧.state result).faults ≡ 0 }
+        ensures no_name { (⟦<DirShelf<'a, R> as Shelf>⟧.state result).failed ≡ None }
     {
         DirShelf {
             files,
@@ -74,15 +74,13 @@ fn read_path<R: Files>(
 }
 
 impl<R: Files> Shelf for DirShelf<'_, R> {
-    ghost held = { λ _. None };
-
-    ghost taken = { λ shelf. shelf.taken };
-
-    ghost faults = { λ shelf. shelf.faults };
-
-    ghost failed = { λ shelf. shelf.failed };
-
-    ghost steady = { λ _. false };
+    ghost state = { λ shelf. record {
+      held = None;
+      taken = shelf.taken;
+      faults = shelf.faults;
+      failed = shelf.failed;
+      steady = false;
+    } };
 
     fn read(&mut self, alloc: Global, name: &str, most: usize) -> Result<Vec<u8>, ShelfNo> {
         self.taken = 0;
@@ -91,42 +89,5 @@ impl<R: Files> Shelf for DirShelf<'_, R> {
             self.faults = self.faults.saturating_add(1);
         }
         answer
-    }
-}
-
-#[cfg(test)]
-mod tests {
-    use super::*;
-    use std::test::Fail;
-    use std::{env, process};
-
-    // Each row is the most bytes that a call takes, why it gives none, and how many it took.
-    #[test]
-    fn a_file_is_read_by_its_path(rt: HostRuntime) -> Result<(), Fail> {
-        let alloc = rt.alloc();
-        let name = format!(in alloc; "outside-io-test-{}", process::id(rt.process()))?;
-        let path = env::temp_dir(&rt)?.join(alloc, name.as_str())?;
-        let content = vec![in alloc; 7; 20_000]?;
-        let mut shelf = DirShelf::new(&rt);
-        assert_eq!(rt;
-            shelf.read(alloc, "no/such/file", 9).err(),
-            Some(ShelfNo::Failed)
-        );
-        fs::write(&rt, path.as_str(), content.as_slice())?;
-        let too_long = Some(ShelfNo::TooLong);
-        for (most, want, taken) in [
-            (20_000, None, 20_000),
-            (19_999, too_long, 20_000),
-            (0, too_long, 1),
-        ] {
-            match shelf.read(alloc, path.as_str(), most) {
-                Ok(bytes) => assert_eq!(rt; bytes.as_slice(), content.as_slice(), "at {most}"),
-                Err(no) => assert_eq!(rt; Some(no), want, "at {most}"),
-            }
-            assert_eq!(rt; shelf.taken, taken, "at {most}");
-        }
-        fs::remove_file(&rt, path.as_str())?;
-        assert_eq!(rt; shelf.faults, 3);
-        Ok(())
     }
 }

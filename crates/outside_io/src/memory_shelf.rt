@@ -1,6 +1,6 @@
 ghost use Rattle.std.specs.Prelude.{◌≡◌, ◌<◌, ◌≤◌, ◌==◌, [], true, length, Some, None, IfOk, IsErrOf, MatchOption, unwrap_or};
 ghost use Rattle.std.specs.List.{list_any};
-ghost use Rattle.outside_io.specs.Outside.{HasDistinctNames, content_of, IsHeld, IsAbsent, TakesWithin, Rose, KeepsName};
+ghost use Rattle.outside_io.specs.Outside.{HasDistinctNames, content_of, IsHeld, IsAbsent, TakesWithin, Rose, Follows, KeepsName};
 ghost use Rattle.outside_io.specs.Scripts.{next_call, answer_within, scripted_answer, IsAnswer};
 
 use crate::shelf::{Shelf, ShelfNo};
@@ -26,11 +26,11 @@ impl MemoryShelf {
     /// Of a file that is longer than `most` it takes `most + 1` bytes. It takes no memory.
     pub fn of(files: Seq<(Text, Text)>, failing: Seq<u64>) -> MemoryShelf
         requires { HasDistinctNames files }
-        ensures held { ⟦<MemoryShelf as Shelf>⟧.held result ≡ Some files }
-        ensures untaken { ⟦<MemoryShelf as Shelf>⟧.taken result ≡ 0 }
-        ensures no_faults { ⟦<MemoryShelf as Shelf>⟧.faults result ≡ 0 }
-        ensures no_name { ⟦<MemoryShelf as Shelf>⟧.failed result ≡ None }
-        ensures steady { ⟦<MemoryShelf as Shelf>⟧.steady result ≡ (length failing == 0) }
+        ensures held { (⟦<MemoryShelf as Shelf>⟧.state result).held ≡ Some files }
+        ensures untaken { (⟦<MemoryShelf as Shelf>⟧.state result).taken ≡ 0 }
+        ensures no_faults { (⟦<MemoryShelf as Shelf>⟧.state result).faults ≡ 0 }
+        ensures no_name { (⟦<MemoryShelf as Shelf>⟧.state result).failed ≡ None }
+        ensures steady { (⟦<MemoryShelf as Shelf>⟧.state result).steady ≡ (length failing == 0) }
         ensures scripted { failing_of result ≡ failing }
         ensures no_calls { calls_of result ≡ 0 }
     {
@@ -90,31 +90,28 @@ fn is_failing(failing: &[u64], call: u64) -> bool
 impl Shelf for MemoryShelf {
     ghost use Rattle.outside_io.specs.MemoryShelf.{files_of, failing_of, calls_of};
 
-    ghost held = { λ shelf. Some shelf.files };
-
-    ghost taken = { λ shelf. shelf.taken };
-
-    ghost faults = { λ shelf. shelf.faults };
-
-    ghost failed = { λ shelf. shelf.failed };
-
-    ghost steady = { λ shelf. length shelf.failing == 0 };
+    ghost state = { λ shelf. record {
+      held = Some shelf.files;
+      taken = shelf.taken;
+      faults = shelf.faults;
+      failed = shelf.failed;
+      steady = length shelf.failing == 0;
+    } };
 
     // The trait's clauses, and on top of them what each call answers.
     fn read(&mut self, alloc: Global, name: &str, most: usize) -> Result<Vec<u8>, ShelfNo>
         ensures scripted { IsAnswer (scripted_answer (failing_of self.old) (next_call (calls_of self.old)) (files_of self.old) name.now most) result }
         ensures counted { calls_of self.new ≡ next_call (calls_of self.old) }
         ensures script_kept { failing_of self.new ≡ failing_of self.old }
-        ensures content { IfOk result (λ bytes. IsHeld (⟦<MemoryShelf as Shelf>⟧.held self.old) name.now bytes.items) }
+        ensures content { IfOk result (λ bytes. IsHeld ((⟦<MemoryShelf as Shelf>⟧.state self.old).held) name.now bytes.items) }
         ensures within { IfOk result (λ bytes. length bytes.items ≤ most) }
-        ensures fault { IsErrOf result ShelfNo.Failed → Rose (⟦<MemoryShelf as Shelf>⟧.faults self.old) (⟦<MemoryShelf as Shelf>⟧.faults self.new) }
-        ensures named { IsErrOf result ShelfNo.Failed → ⟦<MemoryShelf as Shelf>⟧.failed self.new ≡ Some name.now }
-        ensures name_kept { KeepsName result (⟦<MemoryShelf as Shelf>⟧.failed self.old) (⟦<MemoryShelf as Shelf>⟧.failed self.new) }
-        ensures absent { ⟦<MemoryShelf as Shelf>⟧.steady self.old ≡ true → IsErrOf result ShelfNo.Failed → IsAbsent (⟦<MemoryShelf as Shelf>⟧.held self.old) name.now }
-        ensures too_long { IsErrOf result ShelfNo.TooLong → most < ⟦<MemoryShelf as Shelf>⟧.taken self.new }
-        ensures taken { TakesWithin (⟦<MemoryShelf as Shelf>⟧.held self.old) name.now (⟦<MemoryShelf as Shelf>⟧.taken self.new) }
-        ensures held_kept { ⟦<MemoryShelf as Shelf>⟧.held self.new ≡ ⟦<MemoryShelf as Shelf>⟧.held self.old }
-        ensures rising { ⟦<MemoryShelf as Shelf>⟧.faults self.old ≤ ⟦<MemoryShelf as Shelf>⟧.faults self.new }
+        ensures fault { IsErrOf result ShelfNo.Failed → Rose ((⟦<MemoryShelf as Shelf>⟧.state self.old).faults) ((⟦<MemoryShelf as Shelf>⟧.state self.new).faults) }
+        ensures named { IsErrOf result ShelfNo.Failed → (⟦<MemoryShelf as Shelf>⟧.state self.new).failed ≡ Some name.now }
+        ensures name_kept { KeepsName result ((⟦<MemoryShelf as Shelf>⟧.state self.old).failed) ((⟦<MemoryShelf as Shelf>⟧.state self.new).failed) }
+        ensures absent { (⟦<MemoryShelf as Shelf>⟧.state self.old).steady ≡ true → IsErrOf result ShelfNo.Failed → IsAbsent ((⟦<MemoryShelf as Shelf>⟧.state self.old).held) name.now }
+        ensures too_long { IsErrOf result ShelfNo.TooLong → most < (⟦<MemoryShelf as Shelf>⟧.state self.new).taken }
+        ensures taken { TakesWithin ((⟦<MemoryShelf as Shelf>⟧.state self.old).held) name.now ((⟦<MemoryShelf as Shelf>⟧.state self.new).taken) }
+        ensures follows { Follows (⟦<MemoryShelf as Shelf>⟧.state self.old) (⟦<MemoryShelf as Shelf>⟧.state self.new) }
     {
         self.calls = self.calls.saturating_add(1);
         self.taken = 0;
@@ -134,57 +131,5 @@ impl Shelf for MemoryShelf {
             Err(ShelfNo::NoMemory) => {}
         }
         answer
-    }
-}
-
-#[cfg(test)]
-mod tests {
-    use super::*;
-    use mq_base::NoMemory;
-    use std::test::Fail;
-
-    fn two_files(alloc: Global) -> Result<Seq<(Text, Text)>, NoMemory>
-        ensures distinct { IfOk result (λ files. HasDistinctNames files) }
-    {
-        let mut files = Seq::new(alloc);
-        files.push((Text::copied(alloc, b"plan")?, Text::copied(alloc, b"abc")?))?;
-        files.push((Text::copied(alloc, b"none")?, Text::copied(alloc, b"")?))?;
-        Ok(files)
-    }
-
-    // Each row is a call: its name, the most bytes that it takes, the bytes or why there are none, the bytes
-    // taken, and the faults so far.
-    #[test]
-    fn calls_are_answered_in_order(rt: HostRuntime) -> Result<(), Fail> {
-        let alloc = rt.alloc();
-        let mut failing = Seq::new(alloc);
-        failing.push(3)?;
-        let mut shelf = MemoryShelf::of(two_files(alloc)?, failing);
-        let rows = [
-            ("plan", 3, Ok("abc"), 3, 0),
-            ("plan", 2, Err(ShelfNo::TooLong), 3, 0),
-            ("plan", 3, Err(ShelfNo::Failed), 0, 1),
-            ("none", 0, Ok(""), 0, 1),
-            ("plan", 0, Err(ShelfNo::TooLong), 1, 1),
-            ("other", 9, Err(ShelfNo::Failed), 0, 2),
-            ("plan", 900, Ok("abc"), 3, 2),
-        ];
-        for (name, most, want, taken, faults) in rows {
-            match shelf.read(alloc, name, most) {
-                Ok(bytes) => assert_eq!(rt;
-                    want.map(|text| text.as_bytes()),
-                    Ok(bytes.as_slice()),
-                    "{name} {most}"
-                ),
-                Err(no) => assert_eq!(rt; want.err(), Some(no), "{name} {most}"),
-            }
-            assert_eq!(rt;
-                (shelf.taken, shelf.faults),
-                (taken, faults),
-                "{name} {most}"
-            );
-        }
-        assert_eq!(rt; shelf.failed, Some(Text::copied(alloc, b"other")?));
-        Ok(())
     }
 }

@@ -1,5 +1,5 @@
 ghost use Rattle.std.specs.Prelude.{◌≡◌, ◌≤◌, ◌==◌, [], true, length, Some, IsSome, OnOk, IsErrOf};
-ghost use Rattle.outside_io.specs.Outside.{Rose, Appends, AppendsFront};
+ghost use Rattle.outside_io.specs.Outside.{SinkFollows, Rose, Appends, AppendsFront};
 ghost use Rattle.outside_io.specs.Scripts.{next_call, kept_of, PutsAs};
 
 use crate::sink::{Sink, SinkNo};
@@ -22,9 +22,9 @@ impl MemorySink {
     /// `failing` keeps as many bytes of its piece as the second says, or all where the piece is shorter,
     /// and answers `Failed`. Of two pairs with one number the earlier counts. It takes no memory.
     pub fn of(alloc: Global, failing: Seq<(u64, u64)>) -> MemorySink
-        ensures empty { ⟦<MemorySink as Sink>⟧.written result ≡ Some [] }
-        ensures no_faults { ⟦<MemorySink as Sink>⟧.faults result ≡ 0 }
-        ensures steady { ⟦<MemorySink as Sink>⟧.steady result ≡ (length failing == 0) }
+        ensures empty { (⟦<MemorySink as Sink>⟧.state result).written ≡ Some [] }
+        ensures no_faults { (⟦<MemorySink as Sink>⟧.state result).faults ≡ 0 }
+        ensures steady { (⟦<MemorySink as Sink>⟧.state result).steady ≡ (length failing == 0) }
         ensures scripted { failing_of result ≡ failing }
         ensures no_calls { calls_of result ≡ 0 }
     {
@@ -38,7 +38,7 @@ impl MemorySink {
 
     /// What was written so far. It takes no memory.
     pub fn written(&self) -> &[u8]
-        ensures { ⟦<MemorySink as Sink>⟧.written self.now ≡ Some result.now }
+        ensures { (⟦<MemorySink as Sink>⟧.state self.now).written ≡ Some result.now }
     {
         self.written.as_slice()
     }
@@ -60,23 +60,23 @@ fn kept_at(failing: &[(u64, u64)], call: u64) -> Option<u64>
 impl Sink for MemorySink {
     ghost use Rattle.outside_io.specs.MemorySink.{bytes_of, failing_of, calls_of};
 
-    ghost written = { λ sink. Some sink.written.items };
-
-    ghost faults = { λ sink. sink.faults };
-
-    ghost steady = { λ sink. length sink.failing == 0 };
+    ghost state = { λ sink. record {
+      written = Some sink.written.items;
+      faults = sink.faults;
+      steady = length sink.failing == 0;
+    } };
 
     // The trait's clauses, and on top of them what each call answers.
     fn put(&mut self, piece: &[u8]) -> Result<(), SinkNo>
         ensures scripted { PutsAs (kept_of (failing_of self.old) (next_call (calls_of self.old))) piece.now (bytes_of self.old) (bytes_of self.new) result }
         ensures counted { calls_of self.new ≡ next_call (calls_of self.old) }
         ensures script_kept { failing_of self.new ≡ failing_of self.old }
-        ensures ok { OnOk result (Appends (⟦<MemorySink as Sink>⟧.written self.old) (⟦<MemorySink as Sink>⟧.written self.new) piece.now) }
-        ensures fault { IsErrOf result SinkNo.Failed → Rose (⟦<MemorySink as Sink>⟧.faults self.old) (⟦<MemorySink as Sink>⟧.faults self.new) }
-        ensures front { IsErrOf result SinkNo.Failed → AppendsFront (⟦<MemorySink as Sink>⟧.written self.old) (⟦<MemorySink as Sink>⟧.written self.new) piece.now }
-        ensures memory { IsErrOf result SinkNo.NoMemory → ⟦<MemorySink as Sink>⟧.written self.new ≡ ⟦<MemorySink as Sink>⟧.written self.old }
-        ensures steady { ⟦<MemorySink as Sink>⟧.steady self.old ≡ true → IsErrOf result SinkNo.Failed → ⊥ }
-        ensures rising { ⟦<MemorySink as Sink>⟧.faults self.old ≤ ⟦<MemorySink as Sink>⟧.faults self.new }
+        ensures ok { OnOk result (Appends ((⟦<MemorySink as Sink>⟧.state self.old).written) ((⟦<MemorySink as Sink>⟧.state self.new).written) piece.now) }
+        ensures fault { IsErrOf result SinkNo.Failed → Rose ((⟦<MemorySink as Sink>⟧.state self.old).faults) ((⟦<MemorySink as Sink>⟧.state self.new).faults) }
+        ensures front { IsErrOf result SinkNo.Failed → AppendsFront ((⟦<MemorySink as Sink>⟧.state self.old).written) ((⟦<MemorySink as Sink>⟧.state self.new).written) piece.now }
+        ensures memory { IsErrOf result SinkNo.NoMemory → (⟦<MemorySink as Sink>⟧.state self.new).written ≡ (⟦<MemorySink as Sink>⟧.state self.old).written }
+        ensures steady { (⟦<MemorySink as Sink>⟧.state self.old).steady ≡ true → IsErrOf result SinkNo.Failed → ⊥ }
+        ensures follows { SinkFollows (⟦<MemorySink as Sink>⟧.state self.old) (⟦<MemorySink as Sink>⟧.state self.new) }
     {
         self.calls = self.calls.saturating_add(1);
         let Some(kept) = kept_at(self.failing.as_slice(), self.calls) else {
@@ -87,34 +87,5 @@ impl Sink for MemorySink {
         self.written.extend_from_slice(&piece[..kept])?;
         self.faults = self.faults.saturating_add(1);
         Err(SinkNo::Failed)
-    }
-}
-
-#[cfg(test)]
-mod tests {
-    use super::*;
-    use std::test::Fail;
-
-    // Each row is a call: its piece, the answer, what was written so far, and the faults so far.
-    #[test]
-    fn pieces_are_kept_in_order(rt: HostRuntime) -> Result<(), Fail> {
-        let alloc = rt.alloc();
-        let mut failing = Seq::new(alloc);
-        failing.push((2, 2))?;
-        failing.push((3, 9))?;
-        let mut sink = MemorySink::of(alloc, failing);
-        let rows = [
-            ("ab", Ok(()), "ab", 0),
-            ("cde", Err(SinkNo::Failed), "abcd", 1),
-            ("fg", Err(SinkNo::Failed), "abcdfg", 2),
-            ("", Ok(()), "abcdfg", 2),
-            ("h", Ok(()), "abcdfgh", 2),
-        ];
-        for (piece, want, written, faults) in rows {
-            assert_eq!(rt; sink.put(piece.as_bytes()), want, "at {piece}");
-            assert_eq!(rt; sink.written(), written.as_bytes(), "at {piece}");
-            assert_eq!(rt; sink.faults, faults, "at {piece}");
-        }
-        Ok(())
     }
 }

@@ -1,6 +1,6 @@
-ghost use Rattle.std.specs.Prelude.{◌≡◌, ℕ, Bool, true, List, ◌<◌, ◌≤◌, length, Option, Some, IsSome, IfOk, IsErrOf};
+ghost use Rattle.std.specs.Prelude.{◌≡◌, true, ◌<◌, ◌≤◌, length, Some, IsSome, IfOk, IsErrOf};
 ghost use Rattle.outside_io.specs.declared.shelf.ShelfNo.TheVariants.{NoMemory};
-ghost use Rattle.outside_io.specs.Outside.{IsHeld, IsAbsent, TakesWithin, Rose, KeepsName};
+ghost use Rattle.outside_io.specs.Outside.{ShelfState, IsHeld, IsAbsent, TakesWithin, Rose, Follows, KeepsName};
 
 use std::alloc::{AllocError, AllocFailed, Global};
 use std::error::Error;
@@ -56,35 +56,23 @@ impl From<mq_base::NoMemory> for ShelfNo {
 /// Names with bytes, from which a caller reads. What a shelf holds is settled when it is made: no call
 /// changes it. docs/ARCHITECTURE.md, "The outside", says what each meaning is for.
 pub trait Shelf: Drop {
-    /// The names with their bytes, where the shelf tells that.
-    ghost held: { Self → Option (List (List ℕ × List ℕ)) };
-
-    /// The number of bytes that the last call took.
-    ghost taken: { Self → ℕ };
-
-    /// A count of faults. It never falls.
-    ghost faults: { Self → ℕ };
-
-    /// The name of the last call that answered `Failed`, if there was one.
-    ghost failed: { Self → Option (List ℕ) };
-
-    /// Whether every name that is held can be read. No call changes it.
-    ghost steady: { Self → Bool };
+    /// What the shelf means: the names with their bytes, where it tells that; the number of bytes that the
+    /// last call took; a count of faults, which never falls; the name of the last call that answered
+    /// `Failed`, if there was one; and whether every name that is held can be read.
+    ghost state: { Self → ShelfState };
 
     /// The bytes that the name is held with, at most `most` of them. `Failed` where the shelf does not
     /// hold the name or could not read it, `TooLong` where there are more bytes than `most`, and
     /// `NoMemory` where the allocator refused.
     fn read(&mut self, alloc: Global, name: &str, most: usize) -> Result<Vec<u8>, ShelfNo>
-        ensures content { IfOk result (λ bytes. IsHeld (held self.old) name.now bytes.items) }
+        ensures content { IfOk result (λ bytes. IsHeld (state self.old).held name.now bytes.items) }
         ensures within { IfOk result (λ bytes. length bytes.items ≤ most) }
-        ensures fault { IsErrOf result ShelfNo.Failed → Rose (faults self.old) (faults self.new) }
-        ensures named { IsErrOf result ShelfNo.Failed → failed self.new ≡ Some name.now }
-        ensures name_kept { KeepsName result (failed self.old) (failed self.new) }
-        ensures absent { steady self.old ≡ true → IsErrOf result ShelfNo.Failed → IsAbsent (held self.old) name.now }
-        ensures told { steady self.old ≡ true → IsSome (held self.old) }
-        ensures too_long { IsErrOf result ShelfNo.TooLong → most < taken self.new }
-        ensures taken { TakesWithin (held self.old) name.now (taken self.new) }
-        ensures held_kept { held self.new ≡ held self.old }
-        ensures steady_kept { steady self.new ≡ steady self.old }
-        ensures rising { faults self.old ≤ faults self.new };
+        ensures fault { IsErrOf result ShelfNo.Failed → Rose (state self.old).faults (state self.new).faults }
+        ensures named { IsErrOf result ShelfNo.Failed → (state self.new).failed ≡ Some name.now }
+        ensures name_kept { KeepsName result (state self.old).failed (state self.new).failed }
+        ensures absent { (state self.old).steady ≡ true → IsErrOf result ShelfNo.Failed → IsAbsent (state self.old).held name.now }
+        ensures told { (state self.old).steady ≡ true → IsSome (state self.old).held }
+        ensures too_long { IsErrOf result ShelfNo.TooLong → most < (state self.new).taken }
+        ensures taken { TakesWithin (state self.old).held name.now (state self.new).taken }
+        ensures follows { Follows (state self.old) (state self.new) };
 }

@@ -1,6 +1,6 @@
-ghost use Rattle.std.specs.Prelude.{◌≡◌, ℕ, Bool, true, List, ◌≤◌, Option, OnOk, IsErrOf};
+ghost use Rattle.std.specs.Prelude.{◌≡◌, true, OnOk, IsErrOf};
 ghost use Rattle.outside_io.specs.declared.sink.SinkNo.TheVariants.{NoMemory};
-ghost use Rattle.outside_io.specs.Outside.{Rose, Appends, AppendsFront};
+ghost use Rattle.outside_io.specs.Outside.{SinkState, SinkFollows, Rose, Appends, AppendsFront};
 
 use std::alloc::{AllocError, AllocFailed};
 use std::error::Error;
@@ -53,23 +53,17 @@ impl From<mq_base::NoMemory> for SinkNo {
 /// A place to which bytes are written, piece after piece. docs/ARCHITECTURE.md, "The outside", says what
 /// each meaning is for.
 pub trait Sink: Drop {
-    /// What was written so far, where the sink tells that.
-    ghost written: { Self → Option (List ℕ) };
-
-    /// A count of faults. It never falls.
-    ghost faults: { Self → ℕ };
-
-    /// Whether every piece is taken for which there is memory. No call changes it.
-    ghost steady: { Self → Bool };
+    /// What the sink means: what was written so far, where it tells that; a count of faults, which never
+    /// falls; and whether every piece is taken for which there is memory.
+    ghost state: { Self → SinkState };
 
     /// Writes the piece after what was written. `Failed` where only a front of it was written, which
     /// may be empty, and `NoMemory` where the allocator refused and nothing was written.
     fn put(&mut self, piece: &[u8]) -> Result<(), SinkNo>
-        ensures ok { OnOk result (Appends (written self.old) (written self.new) piece.now) }
-        ensures fault { IsErrOf result SinkNo.Failed → Rose (faults self.old) (faults self.new) }
-        ensures front { IsErrOf result SinkNo.Failed → AppendsFront (written self.old) (written self.new) piece.now }
-        ensures memory { IsErrOf result SinkNo.NoMemory → written self.new ≡ written self.old }
-        ensures steady { steady self.old ≡ true → IsErrOf result SinkNo.Failed → ⊥ }
-        ensures steady_kept { steady self.new ≡ steady self.old }
-        ensures rising { faults self.old ≤ faults self.new };
+        ensures ok { OnOk result (Appends (state self.old).written (state self.new).written piece.now) }
+        ensures fault { IsErrOf result SinkNo.Failed → Rose (state self.old).faults (state self.new).faults }
+        ensures front { IsErrOf result SinkNo.Failed → AppendsFront (state self.old).written (state self.new).written piece.now }
+        ensures memory { IsErrOf result SinkNo.NoMemory → (state self.new).written ≡ (state self.old).written }
+        ensures steady { (state self.old).steady ≡ true → IsErrOf result SinkNo.Failed → ⊥ }
+        ensures follows { SinkFollows (state self.old) (state self.new) };
 }

@@ -1,3 +1,8 @@
 pub mod Rows
-pub mod Stopping
-pub mod QueryStops
+pub mod Knowing
+pub mod Judging
+pub mod Numbers
+pub mod Tables
+pub mod Tasks
+pub mod Ending
+pub mod Telling

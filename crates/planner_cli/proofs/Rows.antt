@@ -1,6 +1,6 @@
 -- Lists that are gathered place by place, and rows in order.
 use Rattle.std.proofs.Common.{◌≡◌, ℕ, suc, ◌+◌, ◌-◌, ◌<◌, List, [], ◌∷◌, ◌++◌, length, map, take, get_or, Option, Some, None, refl, sym, ◌∙◌, ap, arith, Bor, append_assoc, add-one}
-use Rattle.std.specs.Prelude.{filter_map, flat_map}
+use Rattle.std.specs.Prelude.{filter_map, flat_map, codes}
 use Rattle.std.specs.List.{cons_option}
 use Rattle.std.specs.List.Sorted.{IsPermutation, IsSorted}
 use Rattle.std.specs.Cmp.Lexicographic.{slice_cmp, lists_total}
@@ -110,3 +110,9 @@ pub written_is : {E : Type 0} (writer : Writer (Vec ℕ Global)) (bytes : List �
     → IfOk given (λ text. text.items ≡ bytes)
 written_is writer bytes (Ok text) writing gives = gives bytes writing
 written_is writer bytes (Err e) writing gives = tt
+
+-- the plan line, the line of the answer and the rows make a report
+pub report_is : (plan rows first whole : List ℕ) → first ≡ plan ++ (codes "answer" ++ 10 ∷ []) → whole ≡ first ++ rows
+    → whole ≡ plan ++ (codes "answer" ++ 10 ∷ rows)
+report_is plan rows first whole begins ends =
+    ends ∙ (ap (λ xs. xs ++ rows) begins ∙ append_assoc plan (codes "answer" ++ 10 ∷ []) rows)

@@ -1,13 +1,18 @@
 -- A command as contracts speak of it.
-use Rattle.planner_cli.specs.Words.{Command}
+use Rattle.planner_cli.specs.declared.words.Command as words
+use Rattle.planner_cli.specs.declared.words.Command.TheVariants.{Run}
 use Rattle.planner_cli.specs.declared.words.RunWords.{RunWords}
+use Rattle.planner_cli.specs.Words.{RunCommand, Command, run}
 
 -- the words of a command, as lists of bytes
-abbrev pub command_in : RunWords → Command
-command_in words = record {
+abbrev pub run_in : RunWords → RunCommand
+run_in words = record {
   policy = words.policy.now;
   prices = words.prices.now;
   query = words.query.now;
   seed = words.seed;
   schedule = words.schedule;
 }
+
+abbrev pub command_in : words.Command → Command
+command_in (Run words) = run (run_in words)

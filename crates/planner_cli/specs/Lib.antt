@@ -4,9 +4,10 @@ pub mod Commands
 pub mod PlanLine
 pub mod Answer
 pub mod CsvWriting
+pub mod Files
+pub mod Selection
 pub mod Input
 pub mod Report
-pub mod Loading
-pub mod Reading
+pub mod Ends
 pub mod Run
-pub mod Selection
+pub mod inside

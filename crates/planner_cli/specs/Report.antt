@@ -1,4 +1,4 @@
--- What a command writes for its accepted input. docs/FORMATS.md, "Report", tells it in prose.
+-- What a command `run` writes for its task. docs/FORMATS.md, "Report", tells it in prose.
 use Rattle.std.specs.Prelude.{ℕ, Bool, ◌==◌, List, [], ◌∷◌, ◌++◌, map, take, filter_map, count_by, codes, slice_get, Option, None, option_map, if◌then◌else◌}
 use Rattle.std.specs.Option.{option_map_or}
 use Rattle.std.specs.List.{list_all}
@@ -8,22 +8,24 @@ use Rattle.mq_base.specs.declared.ids.TableId.{TableId}
 use Rattle.mq_base.specs.declared.schema.AttrInfo.{AttrInfo}
 use Rattle.mq_base.specs.declared.schema.TableInfo.{TableInfo}
 use Rattle.mq_base.specs.declared.schema.Schema.{Schema}
+use Rattle.mq_base.specs.declared.table.PlainTable.{PlainTable}
 use Rattle.mq_base.specs.declared.value.Value.{Value}
 use Rattle.mq_base.specs.Schema.{is_column_of}
 use Rattle.mq_base.specs.Table.{rows_from}
 use Rattle.policy_reader.specs.declared.policy.Policy.{Policy}
 use Rattle.policy_reader.specs.Accepted.{plain_of}
-use Rattle.planner_cli.specs.declared.job.Job.{Job}
+use Rattle.planner_cli.specs.declared.task.RunTask.{RunTask}
 use Rattle.planner_cli.specs.Answer.{answer_text, selected}
 use Rattle.planner_cli.specs.Input.{table_name}
 use Rattle.planner_cli.specs.PlanLine.{plan_line}
+use Rattle.planner_cli.specs.Selection.{selected_attributes}
 
 -- whether the user may see every asked column plain
 abbrev pub may_see : ℕ → List AttrId → Bool
 may_see plain columns = list_all (λ (a : AttrId). has plain a.0) columns
 
-abbrev pub is_allowed : Job → Bool
-is_allowed job = may_see (plain_of job.policy job.policy.user.0) job.selection.columns
+abbrev pub is_allowed : RunTask → Bool
+is_allowed task = may_see (plain_of task.policy task.policy.user.0) (selected_attributes task.query)
 
 -- the owner of a table
 abbrev pub owner_of : Policy → TableId → ℕ
@@ -48,26 +50,27 @@ abbrev pub places_of : Schema → TableId → List AttrId → List ℕ
 places_of schema t columns = map (place_of schema t) columns
 
 -- the rows of the asked columns, in the order of the table
-abbrev pub asked_rows : Job → List (List Value)
-asked_rows job =
-    rows_from (selected job.table.columns (places_of job.policy.schema job.selection.table job.selection.columns)) 0 job.table.rows
+abbrev pub asked_rows : Schema → List AttrId → TableId → PlainTable → List (List Value)
+asked_rows schema columns t table = rows_from (selected table.columns (places_of schema t columns)) 0 table.rows
 
 -- the answer part: its line, and then the names and the sorted rows
-abbrev pub answer_part : Job → List ℕ
-answer_part job = codes "answer" ++ 10 ∷ answer_text (names_of job.policy.schema job.selection.columns) (asked_rows job)
+abbrev pub answer_part : Schema → List AttrId → TableId → PlainTable → List ℕ
+answer_part schema columns t table = codes "answer" ++ 10 ∷ answer_text (names_of schema columns) (asked_rows schema columns t table)
 
 -- the plan line
-abbrev pub plan_part : Job → List ℕ
-plan_part job = plan_line (table_name job.policy job.selection.table) (receiver_of job.policy job.selection.table)
+abbrev pub plan_part : Policy → TableId → List ℕ
+plan_part p t = plan_line (table_name p t) (receiver_of p t)
+
+-- the report of a query of one table, which are all that are answered so far
+abbrev pub report_of : RunTask → List TableId → List PlainTable → List ℕ
+report_of task (t ∷ []) (table ∷ []) =
+    plan_part task.policy t ++ answer_part task.policy.schema (selected_attributes task.query) t table
+report_of task _ _ = []
 
 -- the report where the user may see the asked columns
-unfoldable pub report : Job → List ℕ
-report job = plan_part job ++ answer_part job
+unfoldable pub report : RunTask → List ℕ
+report task = report_of task task.query.tables task.tables
 
 -- the report where the user may not
 abbrev pub none_report : List ℕ
 none_report = codes "cost none" ++ 10 ∷ []
-
--- what is written for an accepted input
-abbrev pub text_of : Job → List ℕ
-text_of job = if is_allowed job then report job else none_report

@@ -1,102 +1,68 @@
--- What each status of the top call says. docs/ARCHITECTURE.md, "The top call", tells it in prose.
-use Rattle.std.specs.Prelude.{◌≡◌, ◌<◌, ℕ, true, false, List, ◌⊎◌, Option, Some, if◌then◌else◌}
-use Rattle.outside_io.specs.Outside.{Appends, AppendsFront, Rose}
-use Rattle.planner_cli.specs.declared.job.Job.{Job}
+-- What the status of the top call says, for every command. docs/ARCHITECTURE.md, "The top call", tells it in prose.
+use Rattle.std.specs.Prelude.{◌≡◌, ◌⊎◌, ℕ, Bool, true, false, List, Option, Some}
+use Rattle.outside_io.specs.Outside.{ShelfState, SinkState, Appends, AppendsFront, Rose}
+use Rattle.planner_cli.specs.declared.status.FileRole.{FileRole}
+use Rattle.planner_cli.specs.declared.status.InputFault.{InputFault}
 use Rattle.planner_cli.specs.declared.status.Status.{Status}
 use Rattle.planner_cli.specs.declared.status.Status.TheVariants as status
-use Rattle.planner_cli.specs.Words.{Command, command_of}
-use Rattle.planner_cli.specs.Input.{absent, refused, Input, wrong_words, stopped, accepted, most}
-use Rattle.planner_cli.specs.Report.{is_allowed, report, none_report, text_of}
-use Rattle.planner_cli.specs.Loading.{Shelved, IsNamed}
+use Rattle.planner_cli.specs.declared.task.Task.{Task}
+use Rattle.planner_cli.specs.Ends.{Ends}
+use Rattle.planner_cli.specs.Files.{Lookup, Agrees, hidden}
+use Rattle.planner_cli.specs.Input.{absent, refused, Input, wrong_words, stopped, accepted, input_of}
 
--- what a status says of the input
-abbrev pub Explains : Status → Input → Type 0
-Explains status.Done input = (job : Job) × (input ≡ accepted job) × (is_allowed job ≡ true)
-Explains status.NoPlan input = (job : Job) × (input ≡ accepted job) × (is_allowed job ≡ false)
-Explains status.Words input = input ≡ wrong_words
-Explains (status.Input fault) input = input ≡ stopped (refused fault)
-Explains (status.ReadFault file) input = Unit {0}
-Explains status.WriteFault input = (job : Job) × (input ≡ accepted job)
-Explains status.NoMemory input = Unit {0}
+-- a fact of the task that the input is, where it is accepted; there is none for another input
+abbrev pub ForTask : Input → (Task → Type 0) → Type 0
+ForTask wrong_words P = ⊥
+ForTask (stopped stop) P = ⊥
+ForTask (accepted task) P = P task
 
--- what the call added to what was written, for a told input: a whole report, or a front of one
-abbrev pub Writes : Status → Input → Option (List ℕ) → Option (List ℕ) → Type 0
-Writes status.Done input before after = (job : Job) × (input ≡ accepted job) × Appends before after (report job)
-Writes status.NoPlan input before after = (job : Job) × (input ≡ accepted job) × Appends before after none_report
-Writes status.Words input before after = after ≡ before
-Writes (status.Input fault) input before after = after ≡ before
-Writes (status.ReadFault file) input before after = after ≡ before
-Writes status.WriteFault input before after = (job : Job) × (input ≡ accepted job) × AppendsFront before after (text_of job)
-Writes status.NoMemory input before after =
-    (after ≡ before) ⊎ ((job : Job) × (input ≡ accepted job) × AppendsFront before after (text_of job))
+-- what was written grew by the whole of a text with which the task may end, with this status
+abbrev pub AppendsEnd : Task → Status → Option (List ℕ) → Option (List ℕ) → Type 0
+AppendsEnd task s before after = (text : List ℕ) × Ends task s text × Appends before after text
 
--- the statuses that come before anything is written leave it as it was, over every shelf and sink
-abbrev pub KeepsWritten : Status → Option (List ℕ) → Option (List ℕ) → Type 0
-KeepsWritten status.Words before after = after ≡ before
-KeepsWritten (status.Input fault) before after = after ≡ before
-KeepsWritten (status.ReadFault file) before after = after ≡ before
-KeepsWritten status.Done before after = Unit {0}
-KeepsWritten status.NoPlan before after = Unit {0}
-KeepsWritten status.WriteFault before after = Unit {0}
-KeepsWritten status.NoMemory before after = Unit {0}
+-- what was written grew by a front of a text with which the task may end, or by nothing
+abbrev pub AppendsCut : Task → Option (List ℕ) → Option (List ℕ) → Type 0
+AppendsCut task before after = (s : Status) × (text : List ℕ) × Ends task s text × AppendsFront before after text
 
 -- the status that an input has where no fault rises and memory suffices
-abbrev pub status_of : Input → Status
-status_of wrong_words = status.Words
-status_of (stopped (absent file)) = status.ReadFault file
-status_of (stopped (refused fault)) = status.Input fault
-status_of (accepted job) = if is_allowed job then status.Done else status.NoPlan
+abbrev pub IsDue : Input → Status → Type 0
+IsDue wrong_words s = s ≡ status.Words
+IsDue (stopped (absent file name)) s = s ≡ status.ReadFault file
+IsDue (stopped (refused fault)) s = s ≡ status.Input fault
+IsDue (accepted task) s = (text : List ℕ) × Ends task s text
 
--- a read fault has its cause: the shelf's count rose, and the name that failed is that of the file, whose earlier
--- files are held and accepted
-abbrev pub HasReadCause : Shelved → List (List ℕ) → Status → Type 0
-HasReadCause shelf words (status.ReadFault file) =
-    Rose shelf.before shelf.after
-    × ((command : Command) × (name : List ℕ) × (command_of words ≡ Some command) × (shelf.failed ≡ Some name)
-    × IsNamed shelf.held command file name)
-HasReadCause shelf words status.Done = Unit {0}
-HasReadCause shelf words status.NoPlan = Unit {0}
-HasReadCause shelf words status.Words = Unit {0}
-HasReadCause shelf words (status.Input fault) = Unit {0}
-HasReadCause shelf words status.WriteFault = Unit {0}
-HasReadCause shelf words status.NoMemory = Unit {0}
+-- whether a command has ended, so that all of its text was written
+abbrev pub is_end : Status → Bool
+is_end status.Done = true
+is_end status.NoPlan = true
+is_end _ = false
 
--- over a steady shelf only an absent file gives a read fault
-abbrev pub IsAbsentFile : Status → Input → Type 0
-IsAbsentFile (status.ReadFault file) input = input ≡ stopped (absent file)
-IsAbsentFile status.Done input = Unit {0}
-IsAbsentFile status.NoPlan input = Unit {0}
-IsAbsentFile status.Words input = Unit {0}
-IsAbsentFile (status.Input fault) input = Unit {0}
-IsAbsentFile status.WriteFault input = Unit {0}
-IsAbsentFile status.NoMemory input = Unit {0}
+-- whether the status is decided by the words and the files alone
+abbrev pub is_early : Status → Bool
+is_early status.Words = true
+is_early (status.Input fault) = true
+is_early (status.ReadFault file) = true
+is_early _ = false
 
--- code 0 comes only where more bytes than the limit were taken
-abbrev pub HasLengthCause : Status → ℕ → Type 0
-HasLengthCause (status.Input fault) taken = fault.code ≡ 0 → most < taken
-HasLengthCause status.Done taken = Unit {0}
-HasLengthCause status.NoPlan taken = Unit {0}
-HasLengthCause status.Words taken = Unit {0}
-HasLengthCause (status.ReadFault file) taken = Unit {0}
-HasLengthCause status.WriteFault taken = Unit {0}
-HasLengthCause status.NoMemory taken = Unit {0}
+-- a file could not be read: the count of faults rose, the name that failed is that of the file, and with that name hidden
+-- the input stops exactly there, so that all earlier files are accepted
+pub record IsUnread (before after : ShelfState) (words : List (List ℕ)) (lookup : Lookup) (file : FileRole) : Type 0 where
+  pub rose : Rose before.faults after.faults
+  pub name : List ℕ
+  pub failed : after.failed ≡ Some name
+  pub stops : input_of words (hidden file name lookup) ≡ stopped (absent file name)
 
--- what the end of a command says, once its input is accepted
-abbrev pub Finishes : Status → Job → (before_faults after_faults : ℕ) → Option (List ℕ) → Option (List ℕ) → Type 0
-Finishes status.Done job faults_before faults_after before after = (is_allowed job ≡ true) × Appends before after (report job)
-Finishes status.NoPlan job faults_before faults_after before after = (is_allowed job ≡ false) × Appends before after none_report
-Finishes status.WriteFault job faults_before faults_after before after = Rose faults_before faults_after × AppendsFront before after (text_of job)
-Finishes status.NoMemory job faults_before faults_after before after = AppendsFront before after (text_of job)
-Finishes status.Words job faults_before faults_after before after = ⊥
-Finishes (status.Input fault) job faults_before faults_after before after = ⊥
-Finishes (status.ReadFault file) job faults_before faults_after before after = ⊥
-
--- why a piece was not put whole, by the status that says so; a front of it was appended
-abbrev pub StopsPut : (before_faults after_faults : ℕ) → Option (List ℕ) → Option (List ℕ) → List ℕ → Status → Type 0
-StopsPut faults_before faults_after before after piece status.WriteFault = Rose faults_before faults_after × AppendsFront before after piece
-StopsPut faults_before faults_after before after piece status.NoMemory = AppendsFront before after piece
-StopsPut faults_before faults_after before after piece status.Done = ⊥
-StopsPut faults_before faults_after before after piece status.NoPlan = ⊥
-StopsPut faults_before faults_after before after piece status.Words = ⊥
-StopsPut faults_before faults_after before after piece (status.Input fault) = ⊥
-StopsPut faults_before faults_after before after piece (status.ReadFault file) = ⊥
+-- what a status says of some content of the files that agrees with what the shelf tells, and of what was written
+pub record Tells (words : List (List ℕ)) (shelf shelf_after : ShelfState) (sink sink_after : SinkState) (s : Status) : Type 0 where
+  pub lookup : Lookup
+  pub agrees : Agrees shelf.held lookup
+  pub refused : (fault : InputFault) → s ≡ status.Input fault → input_of words lookup ≡ stopped (refused fault)
+  pub read_fault : (file : FileRole) → s ≡ status.ReadFault file → IsUnread shelf shelf_after words lookup file
+  pub steady_shelf : shelf.steady ≡ true → (file : FileRole) → s ≡ status.ReadFault file →
+      (name : List ℕ) × (input_of words lookup ≡ stopped (absent file name))
+  pub ended : is_end s ≡ true → ForTask (input_of words lookup) (λ task. AppendsEnd task s sink.written sink_after.written)
+  pub cut : s ≡ status.WriteFault → ForTask (input_of words lookup) (λ task. AppendsCut task sink.written sink_after.written)
+  pub wanting : s ≡ status.NoMemory → (sink_after.written ≡ sink.written)
+      ⊎ ForTask (input_of words lookup) (λ task. AppendsCut task sink.written sink_after.written)
+  pub decided : IsDue (input_of words lookup) s
+      ⊎ ((s ≡ status.NoMemory) ⊎ (Rose shelf.faults shelf_after.faults ⊎ Rose sink.faults sink_after.faults))

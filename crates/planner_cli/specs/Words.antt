@@ -5,12 +5,16 @@ use Rattle.std.specs.Result.{result_ok}
 use Rattle.hex.specs.Hex.{decode_sized}
 
 -- a command `run`: the names of its files, its seed of 32 bytes, and the number of its schedule
-pub record Command : Type 0 where
+pub record RunCommand : Type 0 where
   pub policy : List ℕ
   pub prices : List ℕ
   pub query : List ℕ
   pub seed : List ℕ
   pub schedule : ℕ
+
+-- a command of the program
+pub data Command : Type 0 where
+  run : RunCommand → Command
 
 -- a seed: 64 hexadecimal digits, in either case
 abbrev pub seed_of : List ℕ → Option (List ℕ)
@@ -25,7 +29,7 @@ schedule_of word =
 abbrev pub run_of : List ℕ → List ℕ → List ℕ → List ℕ → List ℕ → Option Command
 run_of policy prices query seed schedule =
     option_and_then (λ bytes.
-    option_map (λ number. record { policy = policy; prices = prices; query = query; seed = bytes; schedule = number })
+    option_map (λ number. run (record { policy = policy; prices = prices; query = query; seed = bytes; schedule = number }))
     (schedule_of schedule))
     (seed_of seed)
 

@@ -1,29 +1,35 @@
-ghost use Rattle.std.specs.Prelude.{◌≡◌, ◌<◌, ◌≤◌, ◌++◌, List, ℕ, length, codes, true, IfOk, IfErr};
+ghost use Rattle.std.specs.Prelude.{◌≡◌, ◌<◌, ◌≤◌, ◌∷◌, [], map, true, All, length, IfOk, IfErr};
 ghost use Rattle.std.specs.String.{string_bytes};
 ghost use Rattle.std.specs.Str.{IsUtf8};
-ghost use Rattle.mq_base.specs.Schema.{IsSchema};
-ghost use Rattle.outside_io.specs.Outside.{IsHeld, IsAbsent, Rose};
+ghost use Rattle.mq_base.specs.BoundQuery.{IsBound};
+ghost use Rattle.outside_io.specs.Outside.{IsHeld, Follows};
 ghost use Rattle.policy_reader.specs.Accepted.{IsAccepted};
-ghost use Rattle.planner_cli.specs.Selection.{IsSelectionOf};
-ghost use Rattle.planner_cli.specs.Commands.{command_in};
-ghost use Rattle.planner_cli.specs.Input.{most, policy_input, query_input, table_input, table_file, table_name, job_of};
-ghost use Rattle.planner_cli.specs.Reading.{FailsReading};
-ghost use Rattle.planner_cli.specs.Loading.{shelved, TellsTable, WhereTold, Stops, IsOnly, HoldsPolicy, HoldsQuery, IsNamed, IsSound};
+ghost use Rattle.planner_cli.specs.Commands.{command_in, run_in};
+ghost use Rattle.planner_cli.specs.Input.{most, policy_input, query_input, table_input, tables_input, table_file, run_task, task_of};
+ghost use Rattle.planner_cli.specs.inside.Loading.{StopsReading, Loads, Loaded, IsSoundRun, IsSound};
+ghost use Rattle.planner_cli.specs.Selection.{is_plain};
 
-use crate::job::Job;
-use crate::query::read_selection;
-use crate::selection::Selection;
-use crate::status::{FileRole, Status, refused};
-use crate::words::RunWords;
-use mq_base::{NoMemory, PlainTable, Schema, TableId, Text};
+use crate::load_no::{LoadNo, judge, refused};
+use crate::query::read_bound;
+use crate::status::FileRole;
+use crate::task::{RunTask, Task};
+use crate::words::{Command, RunWords};
+use mq_base::{NoMemory, PlainTable, Query, Refusal, Seq, TableId, Text};
 use outside_io::{Shelf, ShelfNo};
-use policy_reader::{Policy, PolicyNo, read_policy};
+use policy_reader::{Policy, read_policy};
 use std::alloc::Global;
 use std::str;
-use table_reader::{TableNo, read_table};
+use table_reader::read_table;
 
-/// The most bytes that a file may have.
+// The most bytes that a file may have.
 const MOST: usize = 67_108_864;
+
+// The refusal of a file that has more.
+const TOO_LONG: Refusal = Refusal {
+    code: 0,
+    at: 0,
+    item: 0,
+};
 
 // The bytes of a file.
 fn read_file<H: Shelf>(
@@ -31,46 +37,28 @@ fn read_file<H: Shelf>(
     shelf: &mut H,
     file: FileRole,
     name: &str,
-) -> Result<Vec<u8>, Status>
-    ensures content { IfOk result (λ bytes. IsHeld (H.held shelf.old) name.now bytes.items) }
+) -> Result<Vec<u8>, LoadNo>
+    ensures content { IfOk result (λ bytes. IsHeld (H.state shelf.old).held name.now bytes.items) }
     ensures within { IfOk result (λ bytes. length bytes.items ≤ most) }
-    ensures stops { IfErr result (FailsReading (shelved (H.held shelf.old) (H.steady shelf.old)
-        (H.faults shelf.old) (H.faults shelf.new) (H.failed shelf.new) (H.taken shelf.new)) file name.now) }
-    ensures held_kept { H.held shelf.new ≡ H.held shelf.old }
-    ensures steady_kept { H.steady shelf.new ≡ H.steady shelf.old }
-    ensures rising { H.faults shelf.old ≤ H.faults shelf.new }
+    ensures stops { IfErr result (StopsReading (H.state shelf.old) (H.state shelf.new) file name.now) }
+    ensures follows { Follows (H.state shelf.old) (H.state shelf.new) }
 {
     match shelf.read(alloc, name, MOST) {
         Ok(bytes) => Ok(bytes),
-        Err(ShelfNo::Failed) => Err(Status::ReadFault(file)),
-        Err(ShelfNo::TooLong) => Err(refused(file, 0, 0, 0)),
-        Err(ShelfNo::NoMemory) => Err(Status::NoMemory),
+        Err(ShelfNo::Failed) => Err(LoadNo::Failed(file)),
+        Err(ShelfNo::TooLong) => Err(refused(file, TOO_LONG)),
+        Err(ShelfNo::NoMemory) => Err(LoadNo::NoMemory),
     }
 }
 
 // The policy of a command.
-fn load_policy<H: Shelf>(alloc: Global, shelf: &mut H, name: &str) -> Result<Policy, Status>
-    ensures held { IfOk result (HoldsPolicy (H.held shelf.old) name.now) }
+fn load_policy<H: Shelf>(alloc: Global, shelf: &mut H, name: &str) -> Result<Policy, LoadNo>
+    ensures loads { Loads (H.state shelf.old) (H.state shelf.new) (FileRole.Policy ∷ []) (policy_input name.now) result }
     ensures accepted { IfOk result IsAccepted }
-    ensures read { IfOk result (λ policy. WhereTold (H.held shelf.old) (λ files. policy_input name.now files ≡ Ok policy)) }
-    ensures stops { IfErr result (Stops (shelved (H.held shelf.old) (H.steady shelf.old)
-        (H.faults shelf.old) (H.faults shelf.new) (H.failed shelf.new) (H.taken shelf.new))
-        (IsOnly FileRole.Policy name.now) (policy_input name.now)) }
-    ensures held_kept { H.held shelf.new ≡ H.held shelf.old }
-    ensures steady_kept { H.steady shelf.new ≡ H.steady shelf.old }
-    ensures rising { H.faults shelf.old ≤ H.faults shelf.new }
+    ensures follows { Follows (H.state shelf.old) (H.state shelf.new) }
 {
     let bytes = read_file(alloc, shelf, FileRole::Policy, name)?;
-    match read_policy(alloc, bytes.as_slice()) {
-        Ok(policy) => Ok(policy),
-        Err(PolicyNo::Refused { code, at, item }) => Err(refused(
-            FileRole::Policy,
-            code.number(),
-            at,
-            item,
-        )),
-        Err(PolicyNo::NoMemory) => Err(Status::NoMemory),
-    }
+    judge(FileRole::Policy, read_policy(alloc, bytes.as_slice()))
 }
 
 // The query of a command.
@@ -79,20 +67,15 @@ fn load_query<H: Shelf>(
     shelf: &mut H,
     policy: &Policy,
     name: &str,
-) -> Result<Selection, Status>
+) -> Result<Query, LoadNo>
     requires { IsAccepted policy.now }
-    ensures held { IfOk result (HoldsQuery (H.held shelf.old) name.now policy.now) }
-    ensures placed { IfOk result (IsSelectionOf policy.now.schema) }
-    ensures read { IfOk result (λ selection. WhereTold (H.held shelf.old) (λ files. query_input policy.now name.now files ≡ Ok selection)) }
-    ensures stops { IfErr result (Stops (shelved (H.held shelf.old) (H.steady shelf.old)
-        (H.faults shelf.old) (H.faults shelf.new) (H.failed shelf.new) (H.taken shelf.new))
-        (IsOnly FileRole.Query name.now) (query_input policy.now name.now)) }
-    ensures held_kept { H.held shelf.new ≡ H.held shelf.old }
-    ensures steady_kept { H.steady shelf.new ≡ H.steady shelf.old }
-    ensures rising { H.faults shelf.old ≤ H.faults shelf.new }
+    ensures loads { Loads (H.state shelf.old) (H.state shelf.new) (FileRole.Query ∷ []) (query_input policy.now name.now) result }
+    ensures bound { IfOk result (IsBound policy.now.schema) }
+    ensures plain { IfOk result (λ query. is_plain query ≡ true) }
+    ensures follows { Follows (H.state shelf.old) (H.state shelf.new) }
 {
     let bytes = read_file(alloc, shelf, FileRole::Query, name)?;
-    read_selection(alloc, bytes.as_slice(), &policy.schema)
+    read_bound(alloc, bytes.as_slice(), &policy.schema)
 }
 
 // The bytes of a name as text.
@@ -115,65 +98,71 @@ fn table_file_name(alloc: Global, policy: &Policy, t: TableId) -> Result<String,
     Ok(name)
 }
 
-// The status of a table's refusal.
-fn table_status(t: TableId, no: TableNo) -> Status
-    ensures { TellsTable t no result }
-{
-    let file = FileRole::Table(t);
-    match no {
-        TableNo::BadHeader => refused(file, 1, 0, 0),
-        TableNo::BadRow { row } => refused(file, 2, row, 0),
-        TableNo::BadInt { row, col } => refused(file, 3, row, col as u64),
-        TableNo::TextTooLong { row, col } => refused(file, 4, row, col as u64),
-        TableNo::TooManyRows => refused(file, 5, 100_001, 0),
-        TableNo::NoMemory => Status::NoMemory,
-    }
-}
-
-// The content of a table of a command.
+// The content of a table.
 fn load_table<H: Shelf>(
     alloc: Global,
     shelf: &mut H,
     policy: &Policy,
     t: TableId,
-) -> Result<PlainTable, Status>
+) -> Result<PlainTable, LoadNo>
     requires accepted { IsAccepted policy.now }
     requires table { t.0 < length policy.now.schema.tables }
-    ensures read { IfOk result (λ table. WhereTold (H.held shelf.old) (λ files. table_input policy.now t files ≡ Ok table)) }
-    ensures stops { IfErr result (Stops (shelved (H.held shelf.old) (H.steady shelf.old)
-        (H.faults shelf.old) (H.faults shelf.new) (H.failed shelf.new) (H.taken shelf.new))
-        (IsOnly (FileRole.Table t) (table_file policy.now t)) (table_input policy.now t)) }
-    ensures held_kept { H.held shelf.new ≡ H.held shelf.old }
-    ensures steady_kept { H.steady shelf.new ≡ H.steady shelf.old }
-    ensures rising { H.faults shelf.old ≤ H.faults shelf.new }
+    ensures loads { Loads (H.state shelf.old) (H.state shelf.new) (FileRole.Table t ∷ []) (table_input policy.now t) result }
+    ensures follows { Follows (H.state shelf.old) (H.state shelf.new) }
 {
-    let Ok(name) = table_file_name(alloc, policy, t) else {
-        return Err(Status::NoMemory);
-    };
+    let name = table_file_name(alloc, policy, t)?;
     let bytes = read_file(alloc, shelf, FileRole::Table(t), name.as_str())?;
-    match read_table(alloc, bytes.as_slice(), &policy.schema, t) {
-        Ok(table) => Ok(table),
-        Err(no) => Err(table_status(t, no)),
-    }
+    judge(
+        FileRole::Table(t),
+        read_table(alloc, bytes.as_slice(), &policy.schema, t),
+    )
 }
 
-// The accepted files of a command, or where they stop it.
-pub fn load_job<H: Shelf>(alloc: Global, shelf: &mut H, words: &RunWords) -> Result<Job, Status>
-    ensures sound { IfOk result IsSound }
-    ensures read { IfOk result (λ job. WhereTold (H.held shelf.old) (λ files. job_of (command_in words.now) files ≡ Ok job)) }
-    ensures stops { IfErr result (Stops (shelved (H.held shelf.old) (H.steady shelf.old)
-        (H.faults shelf.old) (H.faults shelf.new) (H.failed shelf.new) (H.taken shelf.new))
-        (IsNamed (H.held shelf.old) (command_in words.now)) (job_of (command_in words.now))) }
-    ensures held_kept { H.held shelf.new ≡ H.held shelf.old }
-    ensures steady_kept { H.steady shelf.new ≡ H.steady shelf.old }
-    ensures rising { H.faults shelf.old ≤ H.faults shelf.new }
+// The contents of tables, in their order.
+fn load_tables<H: Shelf>(
+    alloc: Global,
+    shelf: &mut H,
+    policy: &Policy,
+    tables: &[TableId],
+) -> Result<Seq<PlainTable>, LoadNo>
+    requires accepted { IsAccepted policy.now }
+    requires tables { All (λ t. t.0 < length policy.now.schema.tables) tables.now }
+    ensures loads { Loads (H.state shelf.old) (H.state shelf.new) (map (λ t. FileRole.Table t) tables.now) (tables_input policy.now tables.now) result }
+    ensures all { IfOk result (λ contents. length contents ≡ length tables.now) }
+    ensures follows { Follows (H.state shelf.old) (H.state shelf.new) }
+{
+    let mut contents = Vec::with_capacity(alloc, tables.len())?;
+    'tables: for t in tables {
+        contents.push(load_table(alloc, shelf, policy, *t)?)?;
+    }
+    Ok(Seq::of(contents))
+}
+
+// The files of a command `run`.
+fn load_run<H: Shelf>(alloc: Global, shelf: &mut H, words: &RunWords) -> Result<RunTask, LoadNo>
+    ensures loaded { Loaded (H.state shelf.old) (H.state shelf.new) (run_task (run_in words.now)) result }
+    ensures sound { IfOk result IsSoundRun }
+    ensures follows { Follows (H.state shelf.old) (H.state shelf.new) }
 {
     let policy = load_policy(alloc, shelf, words.policy)?;
-    let selection = load_query(alloc, shelf, &policy, words.query)?;
-    let table = load_table(alloc, shelf, &policy, selection.table)?;
-    Ok(Job {
+    let query = load_query(alloc, shelf, &policy, words.query)?;
+    let tables = load_tables(alloc, shelf, &policy, query.tables.as_slice())?;
+    Ok(RunTask {
         policy,
-        selection,
-        table,
+        query,
+        tables,
+        seed: words.seed,
+        schedule: words.schedule,
     })
+}
+
+// The files of a command: each is read and judged before the next.
+pub fn load<H: Shelf>(alloc: Global, shelf: &mut H, command: Command) -> Result<Task, LoadNo>
+    ensures loaded { Loaded (H.state shelf.old) (H.state shelf.new) (task_of (command_in command.entry)) result }
+    ensures sound { IfOk result IsSound }
+    ensures follows { Follows (H.state shelf.old) (H.state shelf.new) }
+{
+    match command {
+        Command::Run(words) => Ok(Task::Run(load_run(alloc, shelf, &words)?)),
+    }
 }

@@ -4,15 +4,18 @@
 
 mod answer;
 mod csv_text;
+mod ends;
 mod files;
-mod job;
+mod load_no;
 mod perform;
 mod plan_line;
 mod query;
 mod report;
 mod selection;
 mod status;
+mod task;
 mod words;
 
+pub use ends::one_status;
 pub use perform::run;
 pub use status::{FileRole, InputFault, Status};

@@ -1,64 +1,31 @@
-ghost use Rattle.std.specs.Prelude.{◌≡◌, ◌≤◌, ◌↔◌, ◌⊎◌, ◌++◌, ℕ, List, true, false, map, OnOk, IfErr};
+ghost use Rattle.std.specs.Prelude.{◌≡◌, ◌<◌, ◌↔◌, true, None, map, IfOk, IsErrOf};
 ghost use Rattle.std.specs.String.{string_bytes};
-ghost use Rattle.outside_io.specs.Outside.{Appends, AppendsFront, Rose};
+ghost use Rattle.outside_io.specs.Outside.{Rose};
+ghost use Rattle.planner_cli.specs.declared.status.InputFault.{InputFault};
 ghost use Rattle.planner_cli.specs.Words.{command_of};
-ghost use Rattle.planner_cli.specs.Input.{input_of};
-ghost use Rattle.planner_cli.specs.Loading.{shelved, WhereTold, IsSound};
-ghost use Rattle.planner_cli.specs.Run.{Explains, Writes, KeepsWritten, HasReadCause, IsAbsentFile, HasLengthCause, Finishes, StopsPut, status_of};
+ghost use Rattle.planner_cli.specs.Input.{most};
+ghost use Rattle.planner_cli.specs.inside.Loading.{IsSound};
+ghost use Rattle.planner_cli.specs.Run.{Tells, AppendsEnd, AppendsCut, is_early};
 
-use crate::job::Job;
+use crate::ends::end_of;
 use crate::status::Status;
-use crate::{files, report, words};
+use crate::task::Task;
+use crate::{files, words};
 use outside_io::{Shelf, Sink, SinkNo};
 use std::alloc::Global;
 
-// Puts a piece of the report.
-fn put<K: Sink>(sink: &mut K, piece: &[u8]) -> Result<(), Status>
-    ensures ok { OnOk result (Appends (K.written sink.old) (K.written sink.new) piece.now) }
-    ensures stops { IfErr result (StopsPut (K.faults sink.old) (K.faults sink.new) (K.written sink.old) (K.written sink.new) piece.now) }
-    ensures steady { K.steady sink.old ≡ true → result ≡ Err Status.WriteFault → ⊥ }
-    ensures steady_kept { K.steady sink.new ≡ K.steady sink.old }
-    ensures rising { K.faults sink.old ≤ K.faults sink.new }
+// Ends a command: its report is written as one piece.
+fn finish<K: Sink>(alloc: Global, task: Task, sink: &mut K) -> Result<Status, SinkNo>
+    requires { IsSound task }
+    ensures ended { IfOk result (λ status. AppendsEnd task status (K.state sink.old).written (K.state sink.new).written) }
+    ensures cut { IsErrOf result SinkNo.Failed → AppendsCut task (K.state sink.old).written (K.state sink.new).written }
+    ensures fault { IsErrOf result SinkNo.Failed → Rose (K.state sink.old).faults (K.state sink.new).faults }
+    ensures steady { (K.state sink.old).steady ≡ true → IsErrOf result SinkNo.Failed → ⊥ }
+    ensures wanting { IsErrOf result SinkNo.NoMemory → (K.state sink.new).written ≡ (K.state sink.old).written }
 {
-    match sink.put(piece) {
-        Ok(()) => Ok(()),
-        Err(SinkNo::Failed) => Err(Status::WriteFault),
-        Err(SinkNo::NoMemory) => Err(Status::NoMemory),
-    }
-}
-
-// Puts two pieces, one after the other.
-fn put_both<K: Sink>(sink: &mut K, first: &[u8], second: &[u8]) -> Result<(), Status>
-    ensures ok { OnOk result (Appends (K.written sink.old) (K.written sink.new) (first.now ++ second.now)) }
-    ensures stops { IfErr result (StopsPut (K.faults sink.old) (K.faults sink.new) (K.written sink.old) (K.written sink.new) (first.now ++ second.now)) }
-    ensures steady { K.steady sink.old ≡ true → result ≡ Err Status.WriteFault → ⊥ }
-{
-    put(sink, first)?;
-    put(sink, second)
-}
-
-// Writes the report of an accepted input.
-fn finish<K: Sink>(alloc: Global, job: &Job, sink: &mut K) -> Status
-    requires { IsSound job.now }
-    ensures finishes { Finishes result job.now (K.faults sink.old) (K.faults sink.new) (K.written sink.old) (K.written sink.new) }
-    ensures steady { K.steady sink.old ≡ true → result ≡ Status.WriteFault → ⊥ }
-{
-    if !report::is_allowed(job) {
-        return match put(sink, b"cost none\n") {
-            Ok(()) => Status::NoPlan,
-            Err(status) => status,
-        };
-    }
-    let Ok(plan) = report::plan_part(alloc, job) else {
-        return Status::NoMemory;
-    };
-    let Ok(answer) = report::answer_part(alloc, job) else {
-        return Status::NoMemory;
-    };
-    match put_both(sink, plan.as_bytes(), answer.as_slice()) {
-        Ok(()) => Status::Done,
-        Err(status) => status,
-    }
+    let found = end_of(alloc, task)?;
+    sink.put(found.text.as_slice())?;
+    Ok(found.status)
 }
 
 /// Runs a command: reads the files that the words name from the shelf, and writes the report to the sink.
@@ -73,37 +40,26 @@ pub fn run<H: Shelf, K: Sink>(
     shelf: &mut H,
     sink: &mut K,
 ) -> Status
-    // What the status says of the words, and of the input where the shelf tells what it holds.
+    // What the status says of the words, of the input and of what was written.
     ensures words { (result ≡ Status.Words) ↔ (command_of (map string_bytes words.now) ≡ None) }
-    ensures explained { WhereTold (H.held shelf.old) (λ files. Explains result (input_of (map string_bytes words.now) files)) }
+    ensures told { Tells (map string_bytes words.now) (H.state shelf.old) (H.state shelf.new) (K.state sink.old) (K.state sink.new) result }
+    ensures kept { is_early result ≡ true → (K.state sink.new).written ≡ (K.state sink.old).written }
 
-    // What was written: a whole report, a front of one, or nothing.
-    ensures written { WhereTold (H.held shelf.old) (λ files. Writes result (input_of (map string_bytes words.now) files)
-        (K.written sink.old) (K.written sink.new)) }
-    ensures kept { KeepsWritten result (K.written sink.old) (K.written sink.new) }
-
-    // Faults and lengths have their causes, over every shelf and sink.
-    ensures read_fault { HasReadCause (shelved (H.held shelf.old) (H.steady shelf.old)
-        (H.faults shelf.old) (H.faults shelf.new) (H.failed shelf.new) (H.taken shelf.new)) (map string_bytes words.now) result }
-    ensures write_fault { result ≡ Status.WriteFault → Rose (K.faults sink.old) (K.faults sink.new) }
-    ensures too_long { HasLengthCause result (H.taken shelf.new) }
-
-    // A steady shelf fails only for an absent file, and a steady sink never.
-    ensures steady_shelf { H.steady shelf.old ≡ true → WhereTold (H.held shelf.old) (λ files.
-        IsAbsentFile result (input_of (map string_bytes words.now) files)) }
-    ensures steady_sink { K.steady sink.old ≡ true → result ≡ Status.WriteFault → ⊥ }
-
-    // Without a fault and with memory the status is the one of the input.
-    ensures decided { WhereTold (H.held shelf.old) (λ files.
-        (result ≡ status_of (input_of (map string_bytes words.now) files)) ⊎ ((result ≡ Status.NoMemory)
-        ⊎ (Rose (H.faults shelf.old) (H.faults shelf.new) ⊎ Rose (K.faults sink.old) (K.faults sink.new)))) }
-    ensures held_kept { H.held shelf.new ≡ H.held shelf.old }
+    // Faults and lengths have their causes, and a steady sink never fails.
+    ensures write_fault { result ≡ Status.WriteFault → Rose (K.state sink.old).faults (K.state sink.new).faults }
+    ensures too_long { (fault : InputFault) → result ≡ Status.Input fault → fault.code ≡ 0 → most < (H.state shelf.new).taken }
+    ensures steady_sink { (K.state sink.old).steady ≡ true → result ≡ Status.WriteFault → ⊥ }
+    ensures held_kept { (H.state shelf.new).held ≡ (H.state shelf.old).held }
 {
-    let Some(command) = words::command(words) else {
+    let Some(command) = words::parse(words) else {
         return Status::Words;
     };
-    match files::load_job(alloc, shelf, &command) {
-        Ok(job) => finish(alloc, &job, sink),
-        Err(status) => status,
+    match files::load(alloc, shelf, command) {
+        Ok(task) => match finish(alloc, task, sink) {
+            Ok(status) => status,
+            Err(SinkNo::Failed) => Status::WriteFault,
+            Err(SinkNo::NoMemory) => Status::NoMemory,
+        },
+        Err(error) => error.status(),
     }
 }

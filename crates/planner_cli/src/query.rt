@@ -1,71 +1,66 @@
-ghost use Rattle.std.specs.Prelude.{◌≡◌, ◌≤◌, length, IfOk};
+ghost use Rattle.std.specs.Prelude.{◌≡◌, ◌≤◌, true, length, IfOk};
 ghost use Rattle.mq_base.specs.BoundQuery.{IsBound};
 ghost use Rattle.mq_base.specs.Schema.{IsSchema};
 ghost use Rattle.planner_cli.specs.Input.{query_read, text_bound};
-ghost use Rattle.planner_cli.specs.Loading.{Judges, TellsGrammar};
-ghost use Rattle.planner_cli.specs.Selection.{IsSelectionOf};
+ghost use Rattle.planner_cli.specs.inside.Loading.{Judges};
+ghost use Rattle.planner_cli.specs.Selection.{is_plain};
 
-use crate::selection::{Selection, select};
-use crate::status::{FileRole, Status, refused};
-use mq_base::{NoMemory, Query, Schema};
-use query_bind::{BindNo, bind};
-use sql_reader::{SqlNo, read_query};
+use crate::load_no::{LoadNo, judge, refused};
+use crate::status::FileRole;
+use mq_base::{Query, Refusal, Schema};
+use query_bind::bind;
+use sql_lexer::codes::BAD_CHAR;
+use sql_reader::read_query;
 use std::alloc::Global;
 use std::str;
 
-// The status of a refusal by the grammar.
-fn grammar_status(no: SqlNo) -> Status
-    ensures { TellsGrammar no result }
-{
-    match no {
-        SqlNo::BadChar { at } => refused(FileRole::Query, 1, at as u64, 0),
-        SqlNo::OpenText { at } => refused(FileRole::Query, 2, at as u64, 0),
-        SqlNo::Unexpected { at } => refused(FileRole::Query, 3, at as u64, 0),
-        SqlNo::NumberRange { at } => refused(FileRole::Query, 4, at as u64, 0),
-        SqlNo::NoMemory => Status::NoMemory,
-    }
-}
-
 // The query of a text, with the ids of a schema in place of names.
 #[tactic(auto, unfolding(crate::specs::Input::text_bound))]
-fn bound_query(alloc: Global, text: &str, schema: &Schema) -> Result<Query, Status>
+fn bound_query(alloc: Global, text: &str, schema: &Schema) -> Result<Query, LoadNo>
     requires short { length text.now ≤ 67108864 }
     requires schema { IsSchema schema.now }
-    ensures read { Judges result (text_bound schema.now text.now) }
+    ensures read { Judges FileRole.Query result (text_bound schema.now text.now) }
     ensures bound { IfOk result (IsBound schema.now) }
 {
-    let raw = match read_query(alloc, text) {
-        Ok(raw) => raw,
-        Err(no) => return Err(grammar_status(no)),
-    };
-    match bind(alloc, &raw, schema) {
-        Ok(query) => Ok(query),
-        Err(BindNo::Refused { code, at }) => Err(refused(
-            FileRole::Query,
-            code.number(),
-            at as u64,
-            0,
-        )),
-        Err(BindNo::NoMemory) => Err(Status::NoMemory),
-    }
+    let raw = judge(FileRole::Query, read_query(alloc, text))?;
+    judge(FileRole::Query, bind(alloc, &raw, schema))
 }
 
-// What the bytes of a query file ask for, or the status that refuses them.
+// Whether a query is of one table and has neither a condition nor a group.
+fn is_plain(query: &Query) -> bool
+    ensures { result ≡ is_plain query.now }
+{
+    query.tables.as_slice().len() == 1 && query.conds.as_slice().is_empty() && !query.grouped
+}
+
+// The query that the bytes of its file stand for.
 #[tactic(auto, unfolding(crate::specs::Input::query_read))]
-pub fn read_selection(alloc: Global, bytes: &[u8], schema: &Schema) -> Result<Selection, Status>
+pub fn read_bound(alloc: Global, bytes: &[u8], schema: &Schema) -> Result<Query, LoadNo>
     requires short { length bytes.now ≤ 67108864 }
     requires schema { IsSchema schema.now }
-    ensures read { Judges result (query_read schema.now bytes.now) }
-    ensures placed { IfOk result (IsSelectionOf schema.now) }
+    ensures read { Judges FileRole.Query result (query_read schema.now bytes.now) }
+    ensures bound { IfOk result (IsBound schema.now) }
+    ensures plain { IfOk result (λ query. is_plain query ≡ true) }
 {
     let text = match str::from_utf8(bytes) {
         Ok(text) => text,
-        Err(e) => return Err(refused(FileRole::Query, 1, e.valid_up_to() as u64, 0)),
+        Err(e) => {
+            let refusal = Refusal {
+                code: BAD_CHAR,
+                at: e.valid_up_to() as u64,
+                item: 0,
+            };
+            return Err(refused(FileRole::Query, refusal));
+        }
     };
     let query = bound_query(alloc, text, schema)?;
-    match select(alloc, &query) {
-        Ok(Some(selection)) => Ok(selection),
-        Ok(None) => Err(refused(FileRole::Query, 99, 0, 0)),
-        Err(NoMemory) => Err(Status::NoMemory),
+    if !is_plain(&query) {
+        let refusal = Refusal {
+            code: 99,
+            at: 0,
+            item: 0,
+        };
+        return Err(refused(FileRole::Query, refusal));
     }
+    Ok(query)
 }

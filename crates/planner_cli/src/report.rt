@@ -1,19 +1,18 @@
-ghost use Rattle.std.specs.Prelude.{◌≡◌, ◌≤◌, ◌<◌, ℕ, List, length, map, count_by, option_map, option_copied, All, IfOk};
+ghost use Rattle.std.specs.Prelude.{◌≡◌, ◌≤◌, ◌<◌, ◌++◌, ℕ, List, length, map, count_by, option_map, option_copied, All, IfOk};
 ghost use Rattle.std.specs.String.{string_bytes};
 ghost use Rattle.mq_base.specs.Schema.{is_column_of};
 ghost use Rattle.policy_reader.specs.Accepted.{IsAccepted};
-ghost use Rattle.planner_cli.specs.Loading.{IsSound};
-ghost use Rattle.planner_cli.specs.Report.{may_see, is_allowed, receiver_of, attribute_name, names_of, place_of, places_of, answer_part, plan_part};
+ghost use Rattle.planner_cli.specs.Answer.{answer_text};
+ghost use Rattle.planner_cli.specs.Report.{may_see, receiver_of, attribute_name, names_of, place_of, places_of, asked_rows, answer_part, plan_part};
 
 use crate::files::name_text;
-use crate::job::Job;
 use crate::{answer, csv_text, plan_line};
-use mq_base::{AttrId, AttrSet, NoMemory, Schema, TableId};
+use mq_base::{AttrId, AttrSet, NoMemory, PlainTable, Schema, TableId};
 use policy_reader::Policy;
 use std::alloc::Global;
 
 // Whether the user may see every asked column plain.
-fn may_see(plain: AttrSet, columns: &[AttrId]) -> bool
+pub fn may_see(plain: AttrSet, columns: &[AttrId]) -> bool
     requires { All (λ a. a.0 < 64) columns.now }
     ensures { result ≡ may_see plain.0 columns.now }
 {
@@ -23,16 +22,6 @@ fn may_see(plain: AttrSet, columns: &[AttrId]) -> bool
         }
     }
     true
-}
-
-pub fn is_allowed(job: &Job) -> bool
-    requires { IsSound job.now }
-    ensures { result ≡ is_allowed job.now }
-{
-    may_see(
-        job.policy.plain(job.policy.user),
-        job.selection.columns.as_slice(),
-    )
 }
 
 // The name of the user, where the user does not own the table.
@@ -102,29 +91,52 @@ fn places(
     Ok(places)
 }
 
-// The plan line of a report.
-pub fn plan_part(alloc: Global, job: &Job) -> Result<String, NoMemory>
-    requires { IsSound job.now }
-    ensures { IfOk result (λ text. string_bytes text ≡ plan_part job.now) }
+// The rows of these columns of a table, as comma-separated text under their names.
+fn answer(
+    alloc: Global,
+    schema: &Schema,
+    columns: &[AttrId],
+    t: TableId,
+    table: &PlainTable,
+) -> Result<Vec<u8>, NoMemory>
+    requires { All (λ a. a.0 < length schema.now.attrs) columns.now }
+    ensures { IfOk result (λ text. text.items ≡ answer_text (names_of schema.now columns.now) (asked_rows schema.now columns.now t table.now)) }
 {
-    let t = job.selection.table;
-    let info = &job.policy.schema.tables.as_slice()[t.0 as usize];
-    plan_line::line(alloc, name_text(&info.name), receiver(&job.policy, t))
+    let places = places(alloc, schema, t, columns)?;
+    let selected = answer::selected_columns(alloc, table.columns.as_slice(), places.as_slice())?;
+    let rows = answer::sorted(alloc, selected.as_slice(), table.rows)?;
+    let names = names(alloc, schema, columns)?;
+    let text = csv_text::text(alloc, names.as_slice(), rows.as_slice())?;
+    Ok(text)
 }
 
-// The answer part of a report.
-pub fn answer_part(alloc: Global, job: &Job) -> Result<Vec<u8>, NoMemory>
-    requires { IsSound job.now }
-    ensures { IfOk result (λ text. text.items ≡ answer_part job.now) }
+// The plan line of a report.
+fn plan_part(alloc: Global, policy: &Policy, t: TableId) -> Result<String, NoMemory>
+    requires accepted { IsAccepted policy.now }
+    requires table { t.0 < length policy.now.schema.tables }
+    ensures { IfOk result (λ text. string_bytes text ≡ plan_part policy.now t) }
 {
-    let schema = &job.policy.schema;
-    let asked = job.selection.columns.as_slice();
-    let places = places(alloc, schema, job.selection.table, asked)?;
-    let columns = answer::selected_columns(alloc, job.table.columns.as_slice(), places.as_slice())?;
-    let rows = answer::sorted(alloc, columns.as_slice(), job.table.rows)?;
-    let names = names(alloc, schema, asked)?;
-    let table = csv_text::text(alloc, names.as_slice(), rows.as_slice())?;
-    let mut text = Vec::from_slice(alloc, b"answer\n")?;
-    text.extend_from_slice(table.as_slice())?;
+    let info = &policy.schema.tables.as_slice()[t.0 as usize];
+    plan_line::line(alloc, name_text(&info.name), receiver(policy, t))
+}
+
+// The report of a query of one table.
+pub fn text(
+    alloc: Global,
+    policy: &Policy,
+    columns: &[AttrId],
+    t: TableId,
+    table: &PlainTable,
+) -> Result<Vec<u8>, NoMemory>
+    requires accepted { IsAccepted policy.now }
+    requires table { t.0 < length policy.now.schema.tables }
+    requires columns { All (λ a. a.0 < length policy.now.schema.attrs) columns.now }
+    ensures { IfOk result (λ text. text.items ≡ plan_part policy.now t ++ answer_part policy.now.schema columns.now t table.now) }
+{
+    let plan = plan_part(alloc, policy, t)?;
+    let answer = answer(alloc, &policy.schema, columns, t, table)?;
+    let mut text = plan.into_bytes();
+    text.extend_from_slice(b"answer\n")?;
+    text.extend_from_slice(answer.as_slice())?;
     Ok(text)
 }

@@ -1,17 +1,8 @@
-ghost use Rattle.std.specs.Prelude.{◌≡◌, filter_map, IfOk};
-ghost use Rattle.planner_cli.specs.Selection.{selected_attribute, selection_of};
+ghost use Rattle.std.specs.Prelude.{◌≡◌, ◌∷◌, [], true, filter_map, IfOk};
+ghost use Rattle.planner_cli.specs.Selection.{is_plain, selected_attribute};
 
-use mq_base::{AttrId, Item, NoMemory, Query, Seq, TableId};
+use mq_base::{AttrId, Item, NoMemory, Query, TableId};
 use std::alloc::Global;
-
-// What a query of one table asks for, where it has neither a condition nor a group.
-#[derive(Debug, Drop)]
-pub struct Selection {
-    // The table.
-    pub table: TableId,
-    // The attributes of the select list, in its order, repeated ones too.
-    pub columns: Seq<AttrId>,
-}
 
 // The attribute of a selected item.
 fn attribute(item: &Item) -> Option<AttrId>
@@ -23,9 +14,9 @@ fn attribute(item: &Item) -> Option<AttrId>
     }
 }
 
-// The attributes of a select list.
-fn attributes(alloc: Global, items: &[Item]) -> Result<Seq<AttrId>, NoMemory>
-    ensures { IfOk result (λ columns. columns ≡ filter_map selected_attribute items.now) }
+// The attributes of a select list, in its order, repeated ones too.
+pub fn attributes(alloc: Global, items: &[Item]) -> Result<Vec<AttrId>, NoMemory>
+    ensures { IfOk result (λ columns. columns.items ≡ filter_map selected_attribute items.now) }
 {
     let mut columns = Vec::with_capacity(alloc, items.len())?;
     'items: for item in items {
@@ -34,22 +25,13 @@ fn attributes(alloc: Global, items: &[Item]) -> Result<Seq<AttrId>, NoMemory>
         };
         columns.push(a)?;
     }
-    Ok(Seq::of(columns))
+    Ok(columns)
 }
 
-// What a query asks for, where it is of one table and has neither a condition nor a group.
-#[tactic(auto, unfolding(crate::specs::Selection::selection_of))]
-pub fn select(alloc: Global, query: &Query) -> Result<Option<Selection>, NoMemory>
-    ensures { IfOk result (λ selection. selection ≡ selection_of query.now) }
+// The table of a query of one table.
+pub fn only_table(query: &Query) -> TableId
+    requires { is_plain query.now ≡ true }
+    ensures { query.now.tables ≡ result ∷ [] }
 {
-    if query.grouped || !query.conds.as_slice().is_empty() {
-        return Ok(None);
-    }
-    let [table] = query.tables.as_slice() else {
-        return Ok(None);
-    };
-    Ok(Some(Selection {
-        table: *table,
-        columns: attributes(alloc, query.items.as_slice())?,
-    }))
+    query.tables.as_slice()[0]
 }

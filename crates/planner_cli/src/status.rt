@@ -1,5 +1,4 @@
 ghost use Rattle.std.specs.Prelude.{◌≡◌};
-ghost use Rattle.planner_cli.specs.Loading.{refused_status};
 ghost use Rattle.planner_cli.specs.Status.{number_of};
 
 use mq_base::TableId;
@@ -36,18 +35,6 @@ pub struct InputFault {
     pub code: u16,
     pub at: u64,
     pub item: u64,
-}
-
-// A refusal of a file.
-pub fn refused(file: FileRole, code: u16, at: u64, item: u64) -> Status
-    ensures { result ≡ refused_status file code at item }
-{
-    Status::Input(InputFault {
-        file,
-        code,
-        at,
-        item,
-    })
 }
 
 /// How a command ended. docs/FORMATS.md, "Statuses", says when each comes.

@@ -6,6 +6,12 @@ ghost use Rattle.planner_cli.specs.Commands.{command_in};
 
 use hex::FromHex;
 
+// A command of the program.
+#[derive(Drop)]
+pub enum Command<'a> {
+    Run(RunWords<'a>),
+}
+
 // A command `run`: the names of its files, its seed and the number of its schedule.
 #[derive(Drop)]
 pub struct RunWords<'a> {
@@ -34,7 +40,7 @@ fn are_zeros(digits: &[u8]) -> bool
 }
 
 // The command that the words stand for, where they have the form of one.
-pub fn command<'a>(words: &'a [String]) -> Option<RunWords<'a>>
+pub fn parse<'a>(words: &'a [String]) -> Option<Command<'a>>
     ensures { option_map command_in result ≡ command_of (map string_bytes words.now) }
 {
     let [name, policy, prices, query, seed, schedule] = words else {
@@ -47,11 +53,11 @@ pub fn command<'a>(words: &'a [String]) -> Option<RunWords<'a>>
         return None;
     };
     let schedule = schedule_number(schedule.as_str())?;
-    Some(RunWords {
+    Some(Command::Run(RunWords {
         policy: policy.as_str(),
         prices: prices.as_str(),
         query: query.as_str(),
         seed,
         schedule,
-    })
+    }))
 }

@@ -1,10 +1,9 @@
 pub mod AcceptedLaws
 pub mod BuildLaws
 pub mod GrantLaws
+pub mod PlaceLaws
 pub mod Places
 pub mod RuleLaws
 pub mod SchemaLaws
-pub mod ShapeLaws
-pub mod TextLaws
-pub mod TreeLaws
-pub mod WithinLaws
+pub mod NameLaws
+pub mod SeenLaws

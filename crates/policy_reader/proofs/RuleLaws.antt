@@ -56,7 +56,7 @@ any_from test place (first ∷ rest) = by_first (test first) (any_from test (pla
 pub any-position : {T : Type 0} (test : T → Bool) (items : List T) → list_any test items ≡ is_some (position test items)
 any-position test items = rw position_from-zero (any_from test 0 items)
 
-a_column : List ℕ → RawColumn
+pub a_column : List ℕ → RawColumn
 a_column name = record { name = name; ty = type.Int }
 
 -- the set of a column that was found

@@ -13,7 +13,8 @@ use Rattle.policy_reader.specs.Names.{is_one_of}
 use Rattle.policy_reader.specs.Faults.{column_count}
 use Rattle.policy_reader.specs.Grants.{ids}
 use Rattle.policy_reader.specs.Outcome.{subject_id, table_info, tables_from, column_info, columns_from}
-use Rattle.policy_reader.proofs.WithinLaws.{ids-members, ids-from}
+use Rattle.policy_reader.proofs.PlaceLaws.{here_or_later}
+use Rattle.policy_reader.proofs.SeenLaws.{ids-members, ids-from}
 
 -- the table of the column at a place of the list
 abbrev table_at : List AttrInfo → ℕ → Option ℕ
@@ -42,9 +43,6 @@ later t (column ∷ columns) rest zero past = absurd (omega arith)
 later t (column ∷ columns) rest (suc a) past =
     let less : suc a - suc (length columns) ≡ a - length columns = omega arith in
     rw less (later t columns rest a (omega arith))
-
-here_or_later : (a n : ℕ) → (a < n) ⊎ (n ≤ a)
-here_or_later a n = grind arith
 
 -- the table of each column is one of those from the first on
 pub in_tables : (t : ℕ) (tables : List RawTable) (a : ℕ)

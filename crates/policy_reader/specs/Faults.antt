@@ -1,27 +1,24 @@
 -- The tests of limits, names, owners and the user, each a fault or a pass at its place.
 -- docs/FORMATS.md, "Policy file", lists them in the order in which the first fault is told.
-use Rattle.std.specs.Prelude.{ℕ, ◌+◌, Bool, not, ◌||◌, nat_lt, List, length, take, Option, Some, None, Result, Ok, Err, slice_get, option_and_then, bytes_eq, if◌then◌else◌}
+use Rattle.std.specs.Prelude.{ℕ, ◌+◌, Bool, not, ◌||◌, nat_lt, List, length, take, Option, Some, None, slice_get, option_and_then, bytes_eq, if◌then◌else◌}
 use Rattle.std.specs.List.{list_any, sum_by}
 use Rattle.base_laws.specs.Firsts.{or_else, first_at}
-use Rattle.policy_reader.specs.declared.fault.Fault.{Fault}
+use Rattle.mq_base.specs.declared.refusal.Refusal.{Refusal}
+use Rattle.mq_base.specs.Refusal.{refusal}
 use Rattle.policy_reader.specs.declared.raw.RawColumn.{RawColumn}
 use Rattle.policy_reader.specs.declared.raw.RawTable.{RawTable}
 use Rattle.policy_reader.specs.declared.refusal.PolicyCode.{PolicyCode}
 use Rattle.policy_reader.specs.declared.refusal.PolicyCode.TheVariants.{BadName, RepeatedName, UnknownOwner, UnknownSubject, TooMany}
+use Rattle.policy_reader.specs.Codes.{number_of}
 use Rattle.policy_reader.specs.Names.{is_name, is_subject_name, is_one_of}
 
 -- a fault with its places
-abbrev pub fault : PolicyCode → ℕ → ℕ → Option Fault
-fault code at item = Some (record { code = code; at = at; item = item })
+abbrev pub fault : PolicyCode → ℕ → ℕ → Option Refusal
+fault code at item = Some (refusal (number_of code) at item)
 
 -- the test of what stands at a place
-abbrev pub test_at : {T : Type 0} → (T → Option Fault) → List T → ℕ → Option Fault
+abbrev pub test_at : {T : Type 0} → (T → Option Refusal) → List T → ℕ → Option Refusal
 test_at test items place = option_and_then test (slice_get items place)
-
--- what a check found: its fault, or nothing
-abbrev pub fault_of : {A : Type 0} → Result A Fault → Option Fault
-fault_of (Ok passed) = None
-fault_of (Err found) = Some found
 
 -- whether a table, and whether a column, has this name
 abbrev pub is_table : List ℕ → RawTable → Bool
@@ -42,53 +39,53 @@ abbrev pub column_count : List RawTable → ℕ
 column_count tables = sum_by (λ (table : RawTable). length table.columns) tables
 
 -- TooMany, where a number is larger than its limit
-abbrev pub over : ℕ → ℕ → ℕ → Option Fault
+abbrev pub over : ℕ → ℕ → ℕ → Option Refusal
 over limit number at = if nat_lt limit number then fault TooMany at 0 else None
 
 -- more than 16 subjects, more than 8 tables, more than 64 columns in all
-abbrev pub limit_fault : List (List ℕ) → List RawTable → Option Fault
+abbrev pub limit_fault : List (List ℕ) → List RawTable → Option Refusal
 limit_fault subjects tables =
     or_else (over 16 (length subjects) 0) (or_else (over 8 (length tables) 1) (over 64 (column_count tables) 2))
 
 -- BadName where a name breaks the name rule, and else RepeatedName where it stands earlier
-abbrev pub name_fault : Bool → Bool → ℕ → ℕ → Option Fault
+abbrev pub name_fault : Bool → Bool → ℕ → ℕ → Option Refusal
 name_fault well earlier at item =
     if not well then fault BadName at item else if earlier then fault RepeatedName at item else None
 
 -- a subject's name
-abbrev pub subject_fault : List (List ℕ) → ℕ → Option Fault
+abbrev pub subject_fault : List (List ℕ) → ℕ → Option Refusal
 subject_fault subjects at = test_at (λ name. name_fault (is_subject_name name) (is_one_of name (take at subjects)) at 0) subjects at
 
 -- a table's name
-abbrev pub table_fault : List RawTable → ℕ → Option Fault
+abbrev pub table_fault : List RawTable → ℕ → Option Refusal
 table_fault tables at = test_at (λ (table : RawTable). name_fault (is_name table.name) (list_any (is_table table.name) (take at tables)) at 0) tables at
 
 -- a column's name: all columns of all tables are one kind
-abbrev pub column_fault : List RawTable → List RawColumn → ℕ → ℕ → Option Fault
+abbrev pub column_fault : List RawTable → List RawColumn → ℕ → ℕ → Option Refusal
 column_fault earlier columns at place = test_at
     (λ (column : RawColumn). name_fault (is_name column.name)
     (have_column column.name earlier || has_column column.name (take place columns)) at (place + 1))
     columns place
 
 -- the names of a table's columns
-abbrev pub columns_fault : List RawTable → ℕ → Option Fault
+abbrev pub columns_fault : List RawTable → ℕ → Option Refusal
 columns_fault tables at =
     test_at (λ (table : RawTable). first_at (column_fault (take at tables) table.columns at) 0 (length table.columns)) tables at
 
 -- a table's name, and the names of its columns
-abbrev pub table_names_fault : List RawTable → ℕ → Option Fault
+abbrev pub table_names_fault : List RawTable → ℕ → Option Refusal
 table_names_fault tables at = or_else (table_fault tables at) (columns_fault tables at)
 
 -- all names: the subjects, then for each table its name and its columns
-abbrev pub names_fault : List (List ℕ) → List RawTable → Option Fault
+abbrev pub names_fault : List (List ℕ) → List RawTable → Option Refusal
 names_fault subjects tables =
     or_else (first_at (subject_fault subjects) 0 (length subjects)) (first_at (table_names_fault tables) 0 (length tables))
 
 -- a table's owner is a subject
-abbrev pub owner_fault : List (List ℕ) → List RawTable → ℕ → Option Fault
+abbrev pub owner_fault : List (List ℕ) → List RawTable → ℕ → Option Refusal
 owner_fault subjects tables at =
     test_at (λ (table : RawTable). if is_one_of table.owner subjects then None else fault UnknownOwner at 0) tables at
 
 -- the user is a subject
-abbrev pub user_fault : List (List ℕ) → List ℕ → Option Fault
+abbrev pub user_fault : List (List ℕ) → List ℕ → Option Refusal
 user_fault subjects user = if is_one_of user subjects then None else fault UnknownSubject 0 1

@@ -68,11 +68,6 @@ table_grant rules subject first table =
     if bytes_eq subject table.owner then everything first table
     else said first table (option_or (rule_for table subject rules) (rule_for table any_subject rules))
 
--- what the rule `any` says on the table with this id
-abbrev pub any_grant : List RawTable → List RawRule → ℕ → Grant
-any_grant tables rules t = option_map_or
-    (λ (table : RawTable). said (first_id tables t) table (rule_for table any_subject rules)) (slice_get tables t) nothing
-
 -- the grant on the table with this id
 abbrev pub grant : List RawTable → List RawRule → List ℕ → ℕ → Grant
 grant tables rules subject t = option_map_or (table_grant rules subject (first_id tables t)) (slice_get tables t) nothing

@@ -1,8 +1,9 @@
-pub mod Codes
-pub mod Names
-pub mod Shape
-pub mod Faults
-pub mod Rules
-pub mod Grants
 pub mod Outcome
 pub mod Accepted
+pub mod Codes
+pub mod Grants
+pub mod Rules
+pub mod Faults
+pub mod Names
+pub mod Shape
+pub mod inside

@@ -1,12 +1,15 @@
 ghost use Rattle.std.specs.Prelude.{◌≡◌, ℕ, ◌++◌, ◌<◌, ◌≤◌, IfOk, OnOk, bytes_eq, length, map, position, slice_index_or};
 ghost use Rattle.policy_reader.specs.Faults.{column_count};
-ghost use Rattle.policy_reader.specs.Grants.{all_plain, all_sealed, any_grant, nothing};
+ghost use Rattle.policy_reader.specs.Grants.{all_plain, all_sealed, nothing};
+ghost use Rattle.policy_reader.specs.inside.Anyone.{any_grant};
 ghost use Rattle.policy_reader.specs.Outcome.{subject_id, tables_from, column_info, columns_from, sixteen, policy_value};
 
 use crate::grants::{Grant, all_granted, any_grants, ids};
 use crate::policy::Policy;
 use crate::raw::{RawColumn, RawPolicy, RawRule, RawTable};
-use mq_base::{AttrInfo, AttrSet, NoMemory, Schema, Seq, SubjectId, TableId, TableInfo, Text};
+use mq_base::{
+    AttrInfo, AttrSet, NoMemory, Schema, Scheme, Seq, SubjectId, TableId, TableInfo, Text,
+};
 use std::alloc::Global;
 
 /// The policy that the lists stand for.
@@ -30,23 +33,27 @@ pub fn build(alloc: Global, raw: RawPolicy) -> Result<Policy, NoMemory>
         attrs: column_infos(alloc, tables.as_slice())?,
     };
     let user = subject_id(names, &user);
+    let store = owners(alloc, names, tables.as_slice())?;
     Ok(Policy {
         schema,
         subjects,
         user,
         plain: sets.plain,
         sealed: sets.sealed,
+        store,
+        rest: AttrSet::EMPTY,
+        ceiling: [Scheme::Ope; 64],
     })
 }
 
-/// What each subject may see, and empty sets past the last.
+// What each subject may see, and empty sets past the last.
 #[derive(Drop)]
 struct Sets {
     plain: [AttrSet; 16],
     sealed: [AttrSet; 16],
 }
 
-/// What each subject may see, where `any` is what the rule `any` says on each table.
+// What each subject may see, where `any` is what the rule `any` says on each table.
 #[tactic(auto, using(crate::proofs::BuildLaws::sets))]
 fn all_sets(subjects: &[Text], tables: &[RawTable], rules: &[RawRule], any: &[Grant]) -> Sets
     requires few_subjects { length subjects.now ≤ 16 }
@@ -66,7 +73,7 @@ fn all_sets(subjects: &[Text], tables: &[RawTable], rules: &[RawRule], any: &[Gr
     Sets { plain, sealed }
 }
 
-/// The id of a subject.
+// The id of a subject.
 fn subject_id(subjects: &[Text], subject: &Text) -> SubjectId
     requires { length subjects.now ≤ 16 }
     ensures { result ≡ subject_id subjects.now subject.now }
@@ -83,7 +90,7 @@ fn place_of(names: &[Text], name: &Text) -> Option<usize>
     names.iter().position(|other| other == name)
 }
 
-/// The tables, with their owners and the sets of their columns.
+// The tables, with their owners and the sets of their columns.
 #[tactic(auto, using(crate::proofs::BuildLaws::lists))]
 fn table_infos(
     alloc: Global,
@@ -108,7 +115,19 @@ fn table_infos(
     Ok(infos)
 }
 
-/// The columns of all tables.
+// The owner of each table.
+fn owners(alloc: Global, subjects: &[Text], tables: &[RawTable]) -> Result<Seq<SubjectId>, NoMemory>
+    requires { length subjects.now ≤ 16 }
+    ensures { IfOk result (λ owners. owners ≡ map (λ table. subject_id subjects.now table.owner) tables.now) }
+{
+    let mut owners = Seq::new(alloc);
+    for table in tables {
+        owners.push(subject_id(subjects, &table.owner))?;
+    }
+    Ok(owners)
+}
+
+// The columns of all tables.
 #[tactic(auto, using(crate::proofs::BuildLaws::lists))]
 fn column_infos(alloc: Global, tables: &[RawTable]) -> Result<Seq<AttrInfo>, NoMemory>
     requires { length tables.now ≤ 8 }
@@ -126,7 +145,7 @@ fn column_infos(alloc: Global, tables: &[RawTable]) -> Result<Seq<AttrInfo>, NoM
     Ok(infos)
 }
 
-/// Puts the columns of a table at the end.
+// Puts the columns of a table at the end.
 fn push_columns(
     alloc: Global,
     infos: &mut Seq<AttrInfo>,

@@ -1,7 +1,8 @@
 ghost use Rattle.std.specs.Prelude.{◌≡◌, ◌<◌, ◌≤◌, ◌-◌, ◌^◌, min, length, take};
 ghost use Rattle.std.specs.List.{list_any};
 ghost use Rattle.base_laws.specs.Firsts.{first_at};
-ghost use Rattle.policy_reader.specs.Faults.{fault_of, over, limit_fault, name_fault, subject_fault, table_fault, column_fault, columns_fault, table_names_fault, names_fault, owner_fault, user_fault, is_table, has_column, have_column, column_count};
+ghost use Rattle.policy_reader.specs.inside.Checks.{fault_of};
+ghost use Rattle.policy_reader.specs.Faults.{over, limit_fault, name_fault, subject_fault, table_fault, column_fault, columns_fault, table_names_fault, names_fault, owner_fault, user_fault, is_table, has_column, have_column, column_count};
 
 use crate::fault::Fault;
 use crate::names::{is_name, is_one_of, is_subject_name};
@@ -18,7 +19,7 @@ pub fn check_limits(subjects: &[Text], tables: &[RawTable]) -> Result<(), Fault>
     check_limit(64, column_count(tables), 2)
 }
 
-/// The number is not larger than its limit.
+// The number is not larger than its limit.
 fn check_limit(limit: usize, number: usize, at: usize) -> Result<(), Fault>
     ensures { fault_of result ≡ over limit number at }
 {
@@ -120,7 +121,7 @@ fn check_column(
     check_name(is_name(name), repeated, at, place + 1)
 }
 
-/// The name meets the rule and does not stand earlier.
+// The name meets the rule and does not stand earlier.
 fn check_name(well: bool, earlier: bool, at: usize, item: usize) -> Result<(), Fault>
     ensures { fault_of result ≡ name_fault well earlier at item }
 {
@@ -133,7 +134,7 @@ fn check_name(well: bool, earlier: bool, at: usize, item: usize) -> Result<(), F
     Ok(())
 }
 
-/// Whether a table has this name.
+// Whether a table has this name.
 fn has_table(tables: &[RawTable], name: &Text) -> bool
     ensures { result ≡ list_any (is_table name.now) tables.now }
 {
@@ -147,7 +148,7 @@ pub fn has_column(columns: &[RawColumn], name: &Text) -> bool
     columns.iter().any(|column| column.name == *name)
 }
 
-/// Whether a column of one of these tables has this name.
+// Whether a column of one of these tables has this name.
 fn have_column(tables: &[RawTable], name: &Text) -> bool
     ensures { result ≡ have_column name.now tables.now }
 {

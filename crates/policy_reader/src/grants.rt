@@ -2,7 +2,8 @@ ghost use Rattle.std.specs.Prelude.{◌≡◌, ℕ, ◌+◌, ◌<◌, ◌≤◌,
 ghost use Rattle.policy_reader.specs.Faults.{column_count};
 ghost use Rattle.policy_reader.specs.Names.{any_subject};
 ghost use Rattle.policy_reader.specs.Rules.{is_rule};
-ghost use Rattle.policy_reader.specs.Grants.{ids, named, named_at, listed, nothing, rule_for, rule_grant, everything, said, table_grant, any_grant, first_id, grant, all_plain, all_sealed};
+ghost use Rattle.policy_reader.specs.Grants.{ids, named, named_at, listed, nothing, rule_for, rule_grant, everything, said, table_grant, first_id, grant, all_plain, all_sealed};
+ghost use Rattle.policy_reader.specs.inside.Anyone.{any_grant};
 
 use crate::check::column_count;
 use crate::raw::{RawColumn, RawRule, RawTable};
@@ -17,14 +18,14 @@ pub struct Grant {
     pub sealed: AttrSet,
 }
 
-/// A grant of nothing.
+// A grant of nothing.
 const NOTHING: Grant = Grant {
     plain: AttrSet::EMPTY,
     sealed: AttrSet::EMPTY,
 };
 
 impl Grant {
-    /// What either grants.
+    // What either grants.
     fn union(self, other: Grant) -> Grant
         ensures plain { result.plain.0 ≡ bit_or self.plain.0 other.plain.0 }
         ensures sealed { result.sealed.0 ≡ bit_or self.sealed.0 other.sealed.0 }
@@ -51,7 +52,7 @@ pub fn all_granted(tables: &[RawTable], rules: &[RawRule], any: &[Grant], subjec
     all
 }
 
-/// The grant to a subject on the table with this id, where `any` is what the rule `any` says on it.
+// The grant to a subject on the table with this id, where `any` is what the rule `any` says on it.
 #[tactic(auto, using(crate::proofs::GrantLaws::firsts))]
 fn grant_at(tables: &[RawTable], rules: &[RawRule], any: Grant, subject: &Text, t: usize) -> Grant
     requires few { column_count tables.now ≤ 64 }
@@ -80,7 +81,7 @@ pub fn any_grants(
     Ok(grants)
 }
 
-/// What the rule `any` says on the table with this id.
+// What the rule `any` says on the table with this id.
 #[tactic(auto, using(crate::proofs::GrantLaws::firsts))]
 fn any_at(tables: &[RawTable], rules: &[RawRule], t: usize) -> Grant
     requires few { column_count tables.now ≤ 64 }
@@ -90,7 +91,7 @@ fn any_at(tables: &[RawTable], rules: &[RawRule], t: usize) -> Grant
     any_said(rules, first_id(tables, t), &tables[t])
 }
 
-/// The id of the first column of the table with this id.
+// The id of the first column of the table with this id.
 #[tactic(auto, using(crate::proofs::GrantLaws::firsts))]
 fn first_id(tables: &[RawTable], t: usize) -> usize
     requires few { column_count tables.now ≤ 64 }
@@ -100,7 +101,7 @@ fn first_id(tables: &[RawTable], t: usize) -> usize
     column_count(&tables[..t])
 }
 
-/// What the rule `any` says on a table.
+// What the rule `any` says on a table.
 fn any_said(rules: &[RawRule], first: usize, table: &RawTable) -> Grant
     requires { first + length table.now.columns ≤ 64 }
     ensures { result ≡ said first table.now (rule_for table.now any_subject rules.now) }
@@ -111,7 +112,7 @@ fn any_said(rules: &[RawRule], first: usize, table: &RawTable) -> Grant
     }
 }
 
-/// The grant to a subject on a table, where `any` is what the rule `any` says on it.
+// The grant to a subject on a table, where `any` is what the rule `any` says on it.
 fn table_grant(
     rules: &[RawRule],
     subject: &Text,
@@ -132,14 +133,14 @@ fn table_grant(
     }
 }
 
-/// The rule for this table and this subject.
+// The rule for this table and this subject.
 fn find_rule<'a>(rules: &'a [RawRule], table: &[u8], subject: &[u8]) -> Option<&'a RawRule>
     ensures { option_copied result ≡ find (is_rule table.now subject.now) rules.now }
 {
     rules.iter().find(|rule| rule.table.as_bytes() == table && rule.subject.as_bytes() == subject)
 }
 
-/// Everything of a table plain.
+// Everything of a table plain.
 fn everything(first: usize, table: &RawTable) -> Grant
     requires { first + length table.now.columns ≤ 64 }
     ensures { result ≡ everything first table.now }
@@ -150,7 +151,7 @@ fn everything(first: usize, table: &RawTable) -> Grant
     }
 }
 
-/// What a rule for a table says.
+// What a rule for a table says.
 fn rule_grant(first: usize, table: &RawTable, rule: &RawRule) -> Grant
     requires { first + length table.now.columns ≤ 64 }
     ensures { result ≡ rule_grant first table.now rule.now }
@@ -174,7 +175,7 @@ pub fn ids(first: usize, n: usize) -> AttrSet
     set
 }
 
-/// The set of the columns that a list names.
+// The set of the columns that a list names.
 fn listed(first: usize, columns: &[RawColumn], names: &[Text]) -> AttrSet
     requires { first + length columns.now ≤ 64 }
     ensures { result.0 ≡ listed first columns.now names.now }
@@ -194,7 +195,7 @@ fn named_at(first: usize, columns: &[RawColumn], names: &[Text], place: usize) -
     named(first, columns, &names[place])
 }
 
-/// The set of the column with this name.
+// The set of the column with this name.
 #[tactic(auto, using(crate::proofs::GrantLaws::singles))]
 fn named(first: usize, columns: &[RawColumn], name: &Text) -> AttrSet
     requires { first + length columns.now ≤ 64 }

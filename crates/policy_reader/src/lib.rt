@@ -10,7 +10,6 @@ mod names;
 mod policy;
 mod raw;
 mod read;
-mod read_error;
 mod refusal;
 mod rules;
 mod shape;
@@ -18,6 +17,3 @@ mod shape;
 pub use policy::Policy;
 pub use read::read_policy;
 pub use refusal::{PolicyCode, PolicyNo};
-
-#[cfg(test)]
-mod tests;

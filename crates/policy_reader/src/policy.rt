@@ -1,7 +1,7 @@
 ghost use Rattle.std.specs.Prelude.{◌≡◌, ◌<◌};
 ghost use Rattle.policy_reader.specs.Accepted.{plain_of, sealed_of};
 
-use mq_base::{AttrSet, Schema, Seq, SubjectId, Text};
+use mq_base::{AttrSet, Schema, Scheme, Seq, SubjectId, Text};
 
 /// An accepted policy. Subjects, tables and attributes have their ids in the order of the file.
 /// docs/FORMATS.md, "Policy file", says what is accepted, and docs/MODEL.md, "Grants", what each subject may see.
@@ -17,6 +17,12 @@ pub struct Policy {
     pub plain: [AttrSet; 16],
     /// What each subject may see sealed, and empty sets past the last subject.
     pub sealed: [AttrSet; 16],
+    /// The subject that stores each table.
+    pub store: Seq<SubjectId>,
+    /// The attributes that are sealed where they are stored.
+    pub rest: AttrSet,
+    /// The most revealing scheme that each attribute may be sealed under, and Ope past the last attribute.
+    pub ceiling: [Scheme; 64],
 }
 
 impl Policy {

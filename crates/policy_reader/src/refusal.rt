@@ -1,10 +1,15 @@
 ghost use Rattle.std.specs.Prelude.{◌≡◌};
-ghost use Rattle.policy_reader.specs.Codes.{number_of};
+ghost use Rattle.toml_tree.specs.Outcome as document;
+ghost use Rattle.policy_reader.specs.Codes.{number_of, told};
+ghost use Rattle.policy_reader.specs.Faults.{fault};
 ghost use Rattle.policy_reader.specs.declared.refusal.PolicyNo.TheVariants.{NoMemory};
 
+use crate::fault::Fault;
+use mq_base::{Refusal, Refusing};
 use std::alloc::{AllocError, AllocFailed};
 use std::error::Error;
 use std::fmt;
+use toml_tree::DocumentNo;
 
 /// Why a policy file is refused. docs/FORMATS.md, "Policy file", lists the refusals with their places.
 #[derive(Clone, Copy, Debug, PartialEq, Eq)]
@@ -69,6 +74,50 @@ pub enum PolicyNo {
     },
     /// The allocator refused a request for memory.
     NoMemory,
+}
+
+impl Refusing for PolicyNo {
+    ghost told = { told };
+
+    fn refusal(&self) -> Option<Refusal> {
+        match self {
+            PolicyNo::Refused { code, at, item } => Some(Refusal {
+                code: code.number(),
+                at: *at,
+                item: *item,
+            }),
+            PolicyNo::NoMemory => None,
+        }
+    }
+}
+
+impl From<Fault> for PolicyNo {
+    ghost from_gives = { λ found e. told e ≡ fault found.code found.at found.item };
+
+    fn from(fault: Fault) -> PolicyNo {
+        PolicyNo::Refused {
+            code: fault.code,
+            at: fault.at,
+            item: fault.item,
+        }
+    }
+}
+
+impl From<DocumentNo> for PolicyNo {
+    ghost from_gives = { λ no e. told e ≡ document.told no };
+
+    fn from(no: DocumentNo) -> PolicyNo {
+        let code = match no {
+            DocumentNo::Syntax => PolicyCode::Syntax,
+            DocumentNo::Shape => PolicyCode::Shape,
+            DocumentNo::NoMemory => return PolicyNo::NoMemory,
+        };
+        PolicyNo::Refused {
+            code,
+            at: 0,
+            item: 0,
+        }
+    }
 }
 
 impl fmt::Display for PolicyNo {

@@ -1,7 +1,8 @@
 ghost use Rattle.std.specs.Prelude.{◌≡◌, ◌+◌, ◌<◌, ◌≤◌, ◌^◌, Some, length, take, find, position, option_copied, IfOk};
 ghost use Rattle.std.specs.List.{list_any};
 ghost use Rattle.base_laws.specs.Firsts.{first_at};
-ghost use Rattle.policy_reader.specs.Faults.{fault_of, is_table, is_column, column_count};
+ghost use Rattle.policy_reader.specs.inside.Checks.{fault_of};
+ghost use Rattle.policy_reader.specs.Faults.{is_table, is_column, column_count};
 ghost use Rattle.policy_reader.specs.Rules.{is_rule, may_speak_of, plain_fault, sealed_string_fault, sealed_fault, unknown_fault, strings_fault, rule_fault_for, rule_fault};
 ghost use Rattle.policy_reader.specs.Grants.{listed, named, named_at};
 
@@ -41,7 +42,7 @@ fn check_rule(
     }
 }
 
-/// A rule whose table was found, after the earlier rules.
+// A rule whose table was found, after the earlier rules.
 fn check_rule_for(
     subjects: &[Text],
     earlier: &[RawRule],
@@ -82,7 +83,7 @@ fn check_strings(
     check_sealed(columns, plain, set, sealed, at)
 }
 
-/// The strings of `plain` are columns: the set of their places.
+// The strings of `plain` are columns: the set of their places.
 #[tactic(auto, using(crate::proofs::Places::places))]
 fn check_plain(columns: &[RawColumn], plain: &[Text], at: usize) -> Result<AttrSet, Fault>
     requires { length columns.now ≤ 64 }
@@ -97,7 +98,7 @@ fn check_plain(columns: &[RawColumn], plain: &[Text], at: usize) -> Result<AttrS
     Ok(set)
 }
 
-/// The string of `plain` at a place is a column: that column's place.
+// The string of `plain` at a place is a column: that column's place.
 #[tactic(auto, using(crate::proofs::RuleLaws::columns))]
 fn check_plain_string(
     columns: &[RawColumn],
@@ -113,7 +114,7 @@ fn check_plain_string(
     check_column_name(columns, &plain[place], at, place)
 }
 
-/// The name is that of a column: that column's place.
+// The name is that of a column: that column's place.
 #[tactic(auto, using(crate::proofs::RuleLaws::columns))]
 fn check_column_name(
     columns: &[RawColumn],
@@ -132,7 +133,7 @@ fn check_column_name(
     }
 }
 
-/// The strings of `sealed` are columns, and none of those that `plain` lists, which are given as a set.
+// The strings of `sealed` are columns, and none of those that `plain` lists, which are given as a set.
 #[tactic(auto, using(crate::proofs::Places::places))]
 fn check_sealed(
     columns: &[RawColumn],
@@ -167,7 +168,7 @@ fn check_sealed_string(
     check_sealed_name(columns, plain, set, &sealed[place], at, place)
 }
 
-/// The name is that of a column, and none that `plain` lists.
+// The name is that of a column, and none that `plain` lists.
 #[tactic(auto, using(crate::proofs::RuleLaws::columns))]
 fn check_sealed_name(
     columns: &[RawColumn],
@@ -190,14 +191,14 @@ fn check_sealed_name(
     Ok(())
 }
 
-/// Whether a rule may speak of this subject.
+// Whether a rule may speak of this subject.
 fn may_speak_of(subjects: &[Text], subject: &Text) -> bool
     ensures { result ≡ may_speak_of subjects.now subject.now }
 {
     is_one_of(subject, subjects) || is_any(subject)
 }
 
-/// Whether a rule is for this table and this subject.
+// Whether a rule is for this table and this subject.
 fn has_rule(rules: &[RawRule], table: &Text, subject: &Text) -> bool
     ensures { result ≡ list_any (is_rule table.now subject.now) rules.now }
 {
@@ -206,7 +207,7 @@ fn has_rule(rules: &[RawRule], table: &Text, subject: &Text) -> bool
         .any(|rule| rule.table == *table && rule.subject == *subject)
 }
 
-/// The table with this name.
+// The table with this name.
 fn find_table<'a>(tables: &'a [RawTable], name: &Text) -> Option<&'a RawTable>
     ensures { option_copied result ≡ find (is_table name.now) tables.now }
 {

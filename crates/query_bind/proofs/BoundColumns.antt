@@ -10,7 +10,7 @@ use Rattle.base_laws.proofs.ListLaws.{All-first, All-second, All-pieces, All-fla
 use Rattle.mq_base.specs.declared.ids.TableId.{TableId}
 use Rattle.mq_base.specs.declared.schema.Schema.{Schema}
 use Rattle.mq_base.specs.Schema.{table_of}
-use Rattle.mq_base.specs.BoundQuery.{IsUsed}
+use Rattle.mq_base.specs.BoundQuery.{IsOfTables}
 use Rattle.sql_reader.specs.Syntax.{Column, Source, Query}
 use Rattle.query_bind.specs.declared.refusal.BindCode.TheVariants.{UnknownTable, UnknownAttribute, NotInTable}
 use Rattle.query_bind.specs.Lookup.{attribute_named, attribute_of, is_among, condition_columns, item_columns, source_columns, having_columns, all_columns, source_conditions, all_conditions, Use, selected_use, having_use, all_uses}
@@ -36,7 +36,7 @@ owned (Some found) t tables has_owner among =
 
 -- a column that passes names an attribute of the tables
 pub column_used : (schema : Schema) (tables : List ℕ) (c : Column) → column_fault schema tables c ≡ None
-    → IsUsed schema (table_ids tables) (attribute schema c)
+    → IsOfTables schema (table_ids tables) (attribute schema c)
 column_used schema tables c none =
     let first = none_left (fault_if (is_stranger schema tables c.table) UnknownTable c.at) _ none in
     let second = none_left (fault_if (is_none (attribute_named schema c.name)) UnknownAttribute c.at)
@@ -45,7 +45,7 @@ column_used schema tables c none =
   where
     by_owner : (o : Option ℕ) → table_of schema (attribute_of schema c) ≡ o
         → option_map_or (λ t. not (is_among t tables) || is_elsewhere schema c.table t) o true ≡ false
-        → IsUsed schema (table_ids tables) (attribute schema c)
+        → IsOfTables schema (table_ids tables) (attribute schema c)
     by_owner None found inside = cc
     by_owner (Some t) found inside =
         let parts = or_parts (not (is_among t tables)) (is_elsewhere schema c.table t) inside in

@@ -11,14 +11,14 @@ use Rattle.mq_base.specs.declared.query.CmpOp.{CmpOp}
 use Rattle.mq_base.specs.declared.schema.Schema.{Schema}
 use Rattle.mq_base.specs.declared.value.ValueType.{ValueType}
 use Rattle.mq_base.specs.declared.value.ValueType.TheVariants as type
-use Rattle.mq_base.specs.BoundQuery.{type_at, IsUsed, IsBoundCond, MayHold, HaveOneType}
+use Rattle.mq_base.specs.BoundQuery.{type_at, IsOfTables, IsBoundCond, MayHold, HaveOneType}
 use Rattle.mq_base.specs.Value.{IsCell}
 use Rattle.sql_reader.specs.Syntax.{Column, Literal, Number, Text, Side, Col, Lit, Condition}
 use Rattle.query_bind.specs.declared.refusal.BindCode.TheVariants.{SameAttribute, TypeMismatch, TextTooLong}
 use Rattle.query_bind.specs.Lookup.{attribute_of, side_columns, condition_columns}
 use Rattle.query_bind.specs.Bound.{undoubled, literal_value, attribute, bound_side, bound_condition}
 use Rattle.query_bind.specs.Faults.{fault_if, literal_type, same_type, has_type, mismatches, is_long, is_long_side, is_same_attribute, condition_fault}
-use Rattle.query_bind.specs.Ranges.{Fits, SideFits, ConditionFits}
+use Rattle.query_bind.specs.inside.Ranges.{Fits, SideFits, ConditionFits}
 use Rattle.query_bind.proofs.BoundParts.{passed}
 
 same_types : (a b : ValueType) → same_type a b ≡ true → b ≡ a
@@ -62,11 +62,11 @@ columns_match schema left right alike =
 
 side_bound : (schema : Schema) (tables : List TableId) (left : Column) (op : CmpOp) (right : Side)
     → is_same_attribute schema left right ≡ false → mismatches schema left right ≡ false → is_long_side right ≡ false
-    → IsUsed schema tables (attribute schema left) → All (λ c. IsUsed schema tables (attribute schema c)) (side_columns right)
+    → IsOfTables schema tables (attribute schema left) → All (λ c. IsOfTables schema tables (attribute schema c)) (side_columns right)
     → SideFits right → IsBoundCond schema tables (bound_side schema (attribute schema left) op right)
 side_bound schema tables left op (Col c) two alike short used others fits = (
   used,
-  All-head (λ k. IsUsed schema tables (attribute schema k)) c [] others,
+  All-head (λ k. IsOfTables schema tables (attribute schema k)) c [] others,
   (λ same. eqb-false (attribute_of schema left) (attribute_of schema c) two (ap (λ (a : AttrId). a.0) same)),
   columns_match schema left c alike,
 )
@@ -75,7 +75,7 @@ side_bound schema tables left op (Lit l) two alike short used others fits =
 
 -- a condition that passes
 pub condition_bound : (schema : Schema) (tables : List TableId) (c : Condition) → condition_fault schema c ≡ None
-    → All (λ k. IsUsed schema tables (attribute schema k)) (condition_columns c) → ConditionFits c
+    → All (λ k. IsOfTables schema tables (attribute schema k)) (condition_columns c) → ConditionFits c
     → IsBoundCond schema tables (bound_condition schema c)
 condition_bound schema tables c none used fits =
     let first = none_left (fault_if (is_same_attribute schema c.left c.right) SameAttribute c.left.at) _ none in
@@ -83,5 +83,5 @@ condition_bound schema tables c none used fits =
     (fault_if (is_long_side c.right) TextTooLong c.left.at) first.1 in
     side_bound schema tables c.left c.op c.right
     (passed _ SameAttribute c.left.at first.0) (passed _ TypeMismatch c.left.at second.0) (passed _ TextTooLong c.left.at second.1)
-    (All-head (λ k. IsUsed schema tables (attribute schema k)) c.left (side_columns c.right) used)
-    (All-tail (λ k. IsUsed schema tables (attribute schema k)) c.left (side_columns c.right) used) fits
+    (All-head (λ k. IsOfTables schema tables (attribute schema k)) c.left (side_columns c.right) used)
+    (All-tail (λ k. IsOfTables schema tables (attribute schema k)) c.left (side_columns c.right) used) fits

@@ -7,7 +7,7 @@ use Rattle.base_laws.specs.Sets.{has}
 use Rattle.base_laws.proofs.SetLaws.{has-empty, has-with_members}
 use Rattle.mq_base.specs.declared.ids.TableId.{TableId}
 use Rattle.mq_base.specs.declared.schema.Schema.{Schema}
-use Rattle.mq_base.specs.BoundQuery.{IsUsed}
+use Rattle.mq_base.specs.BoundQuery.{IsOfTables}
 use Rattle.sql_reader.specs.Syntax.{Column}
 use Rattle.query_bind.specs.Lookup.{attribute_of, is_some_column}
 use Rattle.query_bind.specs.Bound.{attribute, group_set}
@@ -25,20 +25,20 @@ some_grouped schema (c ∷ rest) some = λ empty.
     (eq-eqb (attribute_of schema c) (attribute_of schema c) refl)))
 
 named_used : (schema : Schema) (tables : List TableId) (group : List Column) (a : ℕ)
-    → All (λ c. IsUsed schema tables (attribute schema c)) group → list_any (λ k. k == a) (map (attribute_of schema) group) ≡ true
-    → IsUsed schema tables (record { 0 = a })
+    → All (λ c. IsOfTables schema tables (attribute schema c)) group → list_any (λ k. k == a) (map (attribute_of schema) group) ≡ true
+    → IsOfTables schema tables (record { 0 = a })
 named_used schema tables [] a used named = cc
 named_used schema tables (c ∷ rest) a used named =
     by_head (attribute_of schema c == a) refl named
-    (named_used schema tables rest a (All-tail (λ k. IsUsed schema tables (attribute schema k)) c rest used))
+    (named_used schema tables rest a (All-tail (λ k. IsOfTables schema tables (attribute schema k)) c rest used))
   where
     by_head : (b : Bool) → (attribute_of schema c == a) ≡ b
         → (b || list_any (λ k. k == a) (map (attribute_of schema) rest)) ≡ true
-        → (list_any (λ k. k == a) (map (attribute_of schema) rest) ≡ true → IsUsed schema tables (record { 0 = a }))
-        → IsUsed schema tables (record { 0 = a })
+        → (list_any (λ k. k == a) (map (attribute_of schema) rest) ≡ true → IsOfTables schema tables (record { 0 = a }))
+        → IsOfTables schema tables (record { 0 = a })
     by_head true same either later =
-        subst (λ k. IsUsed schema tables (record { 0 = k })) (eqb-true (attribute_of schema c) a same)
-        (All-head (λ k. IsUsed schema tables (attribute schema k)) c rest used)
+        subst (λ k. IsOfTables schema tables (record { 0 = k })) (eqb-true (attribute_of schema c) a same)
+        (All-head (λ k. IsOfTables schema tables (attribute schema k)) c rest used)
     by_head false other either later = later either
 
 second_of_or : (a b : Bool) → a ≡ false → (a || b) ≡ true → b ≡ true
@@ -46,8 +46,8 @@ second_of_or true b no_first either = cc
 second_of_or false b no_first either = either
 
 pub grouped_used : (schema : Schema) (tables : List TableId) (group : List Column)
-    → All (λ c. IsUsed schema tables (attribute schema c)) group
-    → (a : ℕ) → has (group_set schema group) a ≡ true → IsUsed schema tables (record { 0 = a })
+    → All (λ c. IsOfTables schema tables (attribute schema c)) group
+    → (a : ℕ) → has (group_set schema group) a ≡ true → IsOfTables schema tables (record { 0 = a })
 grouped_used schema tables group used a member =
     named_used schema tables group a used
     (second_of_or (has 0 a) (list_any (λ k. k == a) (map (attribute_of schema) group)) (has-empty a)

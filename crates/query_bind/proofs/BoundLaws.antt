@@ -6,7 +6,7 @@ use Rattle.std.proofs.lemmas.List.{length-map}
 use Rattle.std.proofs.lemmas.List.Elements.{All-map, All-weaker}
 use Rattle.mq_base.specs.declared.ids.TableId.{TableId}
 use Rattle.mq_base.specs.declared.schema.Schema.{Schema}
-use Rattle.mq_base.specs.BoundQuery.{IsUsed, IsBoundCond, IsBareOrGrouped, IsBound}
+use Rattle.mq_base.specs.BoundQuery.{IsOfTables, IsBoundCond, IsBareOrGrouped, IsBound}
 use Rattle.mq_base.specs.Nodes.{node_count}
 use Rattle.mq_base.specs.Schema.{IsSchema}
 use Rattle.sql_reader.specs.Syntax.{Column, Query}
@@ -14,8 +14,9 @@ use Rattle.sql_reader.specs.Writable.{IsWritable}
 use Rattle.query_bind.specs.declared.refusal.BindCode.TheVariants.{TooManyNodes}
 use Rattle.query_bind.specs.Lookup.{source_table, source_tables, all_conditions, has_group}
 use Rattle.query_bind.specs.Bound.{attribute, bound_item, bound_condition, group_set, bound_query}
-use Rattle.query_bind.specs.Faults.{column_fault, bare_fault, grouped_fault, first_fault}
-use Rattle.query_bind.specs.Ranges.{NumbersFit}
+use Rattle.query_bind.specs.Faults.{column_fault, bare_fault, grouped_fault, items_fault}
+use Rattle.query_bind.specs.Outcome.{first_fault}
+use Rattle.query_bind.specs.inside.Ranges.{NumbersFit}
 use Rattle.query_bind.proofs.BoundParts.{passed, Passes, passes_each}
 use Rattle.query_bind.proofs.BoundTables.{table_ids, tables_known, tables_once, numbers_of_ids}
 use Rattle.query_bind.proofs.BoundColumns.{column_used, EachColumn, each_column}
@@ -28,7 +29,7 @@ at_least f xs some = rw length-map some
 
 -- a column of the query names an attribute of its tables
 abbrev IsUsedIn : Schema → Query → Column → Type 0
-IsUsedIn schema q c = IsUsed schema (table_ids (source_tables schema q.sources)) (attribute schema c)
+IsUsedIn schema q c = IsOfTables schema (table_ids (source_tables schema q.sources)) (attribute schema c)
 
 columns_used : (schema : Schema) (q : Query) → Passes schema q → EachColumn (IsUsedIn schema q) q
 columns_used schema q passes =
@@ -50,7 +51,7 @@ selected schema q written fits used true grouped none =
 -- a query without a fault is bound
 pub no_fault_is_bound : (schema : Schema) (q : Query) → IsSchema schema → IsWritable q → NumbersFit q
     → first_fault schema q ≡ None → IsBound schema (bound_query schema q)
-unfolding bound_query
+unfolding bound_query items_fault
 no_fault_is_bound schema q is_schema written fits none =
     let passes = passes_each schema q none in
     let used = columns_used schema q passes in

@@ -11,8 +11,9 @@ pub mod BoundTables
 pub mod BoundColumns
 pub mod BoundConditions
 pub mod BoundUses
+pub mod GatheredLaws
 pub mod BoundGroup
 pub mod BoundBare
 pub mod BoundGrouped
 pub mod BoundLaws
-pub mod TestLaws
+pub mod Examples

@@ -2,7 +2,7 @@
 use Rattle.std.proofs.Common.{◌≡◌, ℕ, ◌+◌, ◌<◌, ◌≤◌, ◌==◌, Bool, true, false, cond, List, [], ◌∷◌, ◌++◌, length, get_or, drop, refl, arith, append_assoc, ap}
 use Rattle.std.proofs.lemmas.List.{drop_more, drop_all, drop-drop}
 use Rattle.query_bind.specs.Bound.{undoubled}
-use Rattle.query_bind.specs.Results.{step_of}
+use Rattle.query_bind.specs.inside.Results.{step_of}
 
 -- the text from a byte on
 undoubled-step : (b : ℕ) (rest : List ℕ) → undoubled (b ∷ rest) ≡ b ∷ undoubled (drop (step_of b) (b ∷ rest))

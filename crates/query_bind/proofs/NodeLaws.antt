@@ -1,15 +1,16 @@
 -- Laws of the number of nodes: the tables before a place, the sets of attributes, and that ids are below 64.
-use Rattle.std.proofs.Common.{◌≡◌, ℕ, ◌+◌, ◌<◌, ◌≤◌, Bool, true, false, cond, List, [], ◌∷◌, ◌++◌, map, length, get_or, take, drop, Option, Some, None, refl, arith}
+use Rattle.std.proofs.Common.{◌≡◌, ℕ, ◌+◌, ◌<◌, ◌≤◌, cond, List, [], ◌∷◌, ◌++◌, length, get_or, take, drop, Option, Some, None, refl, arith}
 use Rattle.std.specs.Prelude.{bytes_eq, unwrap_or, filter_map}
-use Rattle.std.specs.List.{All, flat_map, list_any}
+use Rattle.std.specs.List.{flat_map, list_any}
 use Rattle.std.proofs.lemmas.List.{drop_more, drop_all, take_more}
-use Rattle.std.proofs.lemmas.List.Elements.{All-nil, All-cons, All-push}
+use Rattle.std.proofs.lemmas.List.Concat.{flat_map_single}
+use Rattle.std.proofs.lemmas.List.Elements.{All-map}
+use Rattle.base_laws.proofs.ListLaws.{position-below}
 use Rattle.base_laws.specs.Sets.{with_member, with_members}
 use Rattle.mq_base.specs.declared.ids.AttrId.{AttrId}
 use Rattle.mq_base.specs.declared.ids.TableId.{TableId}
 use Rattle.mq_base.specs.declared.query.Agg.{Agg}
 use Rattle.mq_base.specs.declared.query.Cond.{Cond}
-use Rattle.mq_base.specs.declared.query.Cond.TheVariants as cond
 use Rattle.mq_base.specs.declared.query.Item.{Item}
 use Rattle.mq_base.specs.declared.query.Item.TheVariants as item
 use Rattle.mq_base.specs.declared.schema.AttrInfo.{AttrInfo}
@@ -17,11 +18,11 @@ use Rattle.mq_base.specs.declared.schema.Schema.{Schema}
 use Rattle.mq_base.specs.Nodes.{aggregated, cond_attributes, item_attribute, joins, unjoined, unjoined_after}
 use Rattle.sql_reader.specs.Syntax.{Column, Condition, Query, Side, Col, Lit}
 use Rattle.sql_reader.specs.Syntax as raw
-use Rattle.query_bind.specs.Bound.{aggs_after, attribute, bound_condition, bound_item, bound_query, is_listed, with_aggregate}
+use Rattle.query_bind.specs.Bound.{attribute, bound_condition, bound_item, bound_query}
 use Rattle.query_bind.specs.Bound as bound
-use Rattle.query_bind.specs.Lookup.{Use, all_conditions, all_uses, attribute_named, attribute_of}
-use Rattle.query_bind.specs.Small.{IsSmall, IsSmallAgg, IsSmallCond, IsSmallItem, with_item}
-use Rattle.query_bind.proofs.PlaceLaws.{position_below}
+use Rattle.query_bind.specs.Lookup.{all_conditions, all_uses, attribute_named, attribute_of}
+use Rattle.query_bind.specs.inside.Small.{AreSmall, IsSmall, agg_attributes, item_attributes}
+use Rattle.query_bind.proofs.BoundUses.{ItemGives, aggs_all}
 
 -- the tables after the first
 pub unjoined-first : (schema : Schema) (conds : List Cond) (tables : List TableId)
@@ -49,91 +50,66 @@ unjoined-step schema conds tables at d whole count one below is before =
 
 pub ruleset tables = (unjoined-first, unjoined-more, unjoined-end)
 
--- past an item, a condition, and an attribute under a function
-item_more : (i : Item) (set : ℕ) (rest : List Item)
-    → with_members set (filter_map item_attribute (i ∷ rest)) ≡ with_members (with_item set i) (filter_map item_attribute rest)
-item_more (item.Attr a) set rest = refl
-item_more item.Count set rest = refl
+-- a set with the members of joined lists
+members_append : (set : ℕ) (left right : List ℕ) → with_members set (left ++ right) ≡ with_members (with_members set left) right
+members_append set [] right = refl
+members_append set (a ∷ rest) right = members_append (with_member set a) rest right
 
-pub items-more : (set : ℕ) (items : List Item) (i : ℕ) (d : Item) → i < length items
-    → with_members set (filter_map item_attribute (drop i items))
-    ≡ with_members (with_item set (get_or items i d)) (filter_map item_attribute (drop (i + 1) items))
-items-more set items i d below = rw (drop_more items i d below) (item_more (get_or items i d) set (drop (i + 1) items))
+-- past a part that names attributes
+pub named-more : {X : Type 0} (attributes : X → List ℕ) (set : ℕ) (parts : List X) (i : ℕ) (d : X) → i < length parts
+    → with_members set (flat_map attributes (drop i parts))
+    ≡ with_members (with_members set (attributes (get_or parts i d))) (flat_map attributes (drop (i + 1) parts))
+named-more attributes set parts i d below =
+    rw (drop_more parts i d below) (members_append set (attributes (get_or parts i d)) (flat_map attributes (drop (i + 1) parts)))
 
-pub items-end : (set : ℕ) (items : List Item) (i : ℕ) → length items ≤ i
-    → with_members set (filter_map item_attribute (drop i items)) ≡ set
-items-end set items i past = rw (drop_all i items past) refl
+pub named-end : {X : Type 0} (attributes : X → List ℕ) (set : ℕ) (parts : List X) (i : ℕ) → length parts ≤ i
+    → with_members set (flat_map attributes (drop i parts)) ≡ set
+named-end attributes set parts i past = rw (drop_all i parts past) refl
 
-cond_more : (c : Cond) (set : ℕ) (rest : List Cond)
-    → with_members set (flat_map cond_attributes (c ∷ rest)) ≡ with_members (with_members set (cond_attributes c)) (flat_map cond_attributes rest)
-cond_more (cond.Const a op value) set rest = refl
-cond_more (cond.Attrs a op b) set rest = refl
+pub ruleset sets = (named-more, named-end)
 
-pub conds-more : (set : ℕ) (conds : List Cond) (i : ℕ) (d : Cond) → i < length conds
-    → with_members set (flat_map cond_attributes (drop i conds))
-    ≡ with_members (with_members set (cond_attributes (get_or conds i d))) (flat_map cond_attributes (drop (i + 1) conds))
-conds-more set conds i d below = rw (drop_more conds i d below) (cond_more (get_or conds i d) set (drop (i + 1) conds))
+-- the attributes of items and of functions
+pub items-named : (items : List Item) → flat_map item_attributes items ≡ filter_map item_attribute items
+items-named [] = refl
+items-named (item.Attr a ∷ rest) = rw (items-named rest) refl
+items-named (item.Count ∷ rest) = items-named rest
 
-pub conds-end : (set : ℕ) (conds : List Cond) (i : ℕ) → length conds ≤ i
-    → with_members set (flat_map cond_attributes (drop i conds)) ≡ set
-conds-end set conds i past = rw (drop_all i conds past) refl
+pub aggs-named : (aggs : List (AttrId × Agg)) → flat_map agg_attributes aggs ≡ aggregated aggs
+aggs-named aggs = flat_map_single (λ p. p.0.0) aggs
 
-pub aggs-more : (set : ℕ) (aggs : List (AttrId × Agg)) (i : ℕ) (d : AttrId × Agg) → i < length aggs
-    → with_members set (aggregated (drop i aggs))
-    ≡ with_members (with_member set (get_or aggs i d).0.0) (aggregated (drop (i + 1) aggs))
-aggs-more set aggs i d below = rw (drop_more aggs i d below) refl
-
-pub aggs-end : (set : ℕ) (aggs : List (AttrId × Agg)) (i : ℕ) → length aggs ≤ i
-    → with_members set (aggregated (drop i aggs)) ≡ set
-aggs-end set aggs i past = rw (drop_all i aggs past) refl
-
-pub ruleset sets = (items-more, items-end, conds-more, conds-end, aggs-more, aggs-end)
+pub ruleset names = (items-named, aggs-named)
 
 -- an attribute that a column names is below 64
 attribute_small : (schema : Schema) (c : Column) → length schema.attrs ≤ 64 → attribute_of schema c < 64
-attribute_small schema c few = by_place (attribute_named schema c.name) (λ place found. position_below (λ (info : AttrInfo). bytes_eq info.name c.name) schema.attrs place found)
+attribute_small schema c few = by_place (attribute_named schema c.name) (λ place found. position-below (λ (info : AttrInfo). bytes_eq info.name c.name) schema.attrs place found)
   where
     by_place : (o : Option ℕ) → ((place : ℕ) → o ≡ Some place → place < length schema.attrs) → unwrap_or o 0 < 64
     by_place None below = omega arith
     by_place (Some place) below = let h = below place refl in omega (arith, h)
 
-small_item : (schema : Schema) → length schema.attrs ≤ 64 → (i : raw.Item) → IsSmallItem (bound_item schema i)
-small_item schema few (raw.Plain c) = attribute_small schema c few
-small_item schema few (raw.Aggregate func c at) = attribute_small schema c few
+small_item : (schema : Schema) → length schema.attrs ≤ 64 → (i : raw.Item) → AreSmall (item_attributes (bound_item schema i))
+small_item schema few (raw.Plain c) = (attribute_small schema c few, tt)
+small_item schema few (raw.Aggregate func c at) = (attribute_small schema c few, tt)
 small_item schema few (raw.Count at) = tt
 
-small_cond : (schema : Schema) → length schema.attrs ≤ 64 → (c : Condition) → IsSmallCond (bound_condition schema c)
+small_cond : (schema : Schema) → length schema.attrs ≤ 64 → (c : Condition) → AreSmall (cond_attributes (bound_condition schema c))
 small_cond schema few c = by_side c.right
   where
-    by_side : (s : Side) → IsSmallCond (bound.bound_side schema (attribute schema c.left) c.op s)
-    by_side (Col other) = (attribute_small schema c.left few, attribute_small schema other few)
-    by_side (Lit l) = attribute_small schema c.left few
+    by_side : (s : Side) → AreSmall (cond_attributes (bound.bound_side schema (attribute schema c.left) c.op s))
+    by_side (Col other) = (attribute_small schema c.left few, (attribute_small schema other few, tt))
+    by_side (Lit l) = (attribute_small schema c.left few, tt)
 
-all_bound : {X Y : Type 0} (P : Y → Type 0) (f : X → Y) (xs : List X) → ((x : X) → P (f x)) → All P (map f xs)
-all_bound P f [] each = All-nil P
-all_bound P f (x ∷ rest) each = All-cons P (f x) (map f rest) (each x) (all_bound P f rest each)
-
-small_noted : (schema : Schema) → length schema.attrs ≤ 64 → (i : raw.Item) (aggs : List (AttrId × Agg))
-    → All IsSmallAgg aggs → All IsSmallAgg (bound.with_item schema i aggs)
-small_noted schema few (raw.Plain c) aggs small = small
-small_noted schema few (raw.Count at) aggs small = small
-small_noted schema few (raw.Aggregate func c at) aggs small = by_test (is_listed (attribute schema c) aggs)
-  where
-    by_test : (b : Bool) → All IsSmallAgg (cond b aggs (aggs ++ (attribute schema c, func) ∷ []))
-    by_test true = small
-    by_test false = All-push IsSmallAgg aggs (attribute schema c, func) small (attribute_small schema c few)
-
-small_aggs : (schema : Schema) → length schema.attrs ≤ 64 → (uses : List Use) (aggs : List (AttrId × Agg))
-    → All IsSmallAgg aggs → All IsSmallAgg (aggs_after schema aggs uses)
-small_aggs schema few [] aggs small = small
-small_aggs schema few (u ∷ rest) aggs small =
-    small_aggs schema few rest (bound.with_item schema u.item aggs) (small_noted schema few u.item aggs small)
+small_function : (schema : Schema) → length schema.attrs ≤ 64 → (i : raw.Item) → ItemGives (λ p. AreSmall (agg_attributes p)) schema i
+small_function schema few (raw.Plain c) = tt
+small_function schema few (raw.Count at) = tt
+small_function schema few (raw.Aggregate func c at) = (attribute_small schema c few, tt)
 
 -- each id of a bound query is below 64
 pub bound-small : (schema : Schema) (q : Query) → length schema.attrs ≤ 64 → IsSmall (bound_query schema q)
 unfolding bound_query
 bound-small schema q few = record {
-  items = all_bound IsSmallItem (bound_item schema) q.items (small_item schema few);
-  conds = all_bound IsSmallCond (bound_condition schema) (all_conditions q) (small_cond schema few);
-  aggs = small_aggs schema few (all_uses q) [] (All-nil IsSmallAgg);
+  items = All-map (λ i. AreSmall (item_attributes i)) (bound_item schema) q.items (λ k d below. small_item schema few (get_or q.items k d));
+  conds = All-map (λ c. AreSmall (cond_attributes c)) (bound_condition schema) (all_conditions q)
+      (λ k d below. small_cond schema few (get_or (all_conditions q) k d));
+  aggs = aggs_all (λ p. AreSmall (agg_attributes p)) schema (all_uses q) (λ k d below. small_function schema few (get_or (all_uses q) k d).item);
 }

@@ -1,6 +1,7 @@
--- The query with ids in place of names. docs/FORMATS.md, "Query", tells it in prose.
-use Rattle.std.specs.Prelude.{ℕ, ◌==◌, Bool, true, false, ℤ, pos, List, [], ◌∷◌, ◌++◌, map, if◌then◌else◌}
+-- The query with ids in place of names, which `bind` answers. docs/FORMATS.md, "Query", tells it in prose.
+use Rattle.std.specs.Prelude.{ℕ, ◌==◌, Bool, true, false, ℤ, pos, List, [], ◌∷◌, filter_map, map, Option, Some, None, if◌then◌else◌}
 use Rattle.std.specs.List.{list_any}
+use Rattle.base_laws.specs.Lists.{firsts}
 use Rattle.base_laws.specs.Sets.{with_members}
 use Rattle.mq_base.specs.declared.ids.AttrId.{AttrId}
 use Rattle.mq_base.specs.declared.query.Agg.{Agg}
@@ -32,27 +33,32 @@ abbrev pub literal_number : Literal → ℤ
 literal_number (Number n) = n
 literal_number (Text inside) = pos 0
 
+-- the attribute of a column
 abbrev pub attribute : Schema → Column → AttrId
 attribute schema c = record { 0 = attribute_of schema c }
 
+-- a selected item
 abbrev pub bound_item : Schema → Item → query.Item.Item
 bound_item schema (Plain c) = item.Attr (attribute schema c)
 bound_item schema (Aggregate func c at) = item.Attr (attribute schema c)
 bound_item schema (Count at) = item.Count
 
+-- a condition with this right side
 abbrev pub bound_side : Schema → AttrId → CmpOp → Side → Cond
 bound_side schema left op (Col c) = cond.Attrs left op (attribute schema c)
 bound_side schema left op (Lit l) = cond.Const left op (literal_value l)
 
+-- a condition of ON and WHERE
 abbrev pub bound_condition : Schema → Condition → Cond
 bound_condition schema c = bound_side schema (attribute schema c.left) c.op c.right
 
--- a condition of HAVING on the count, or on an attribute under a function
+-- a condition of HAVING on this item: the count, or an attribute under a function
 abbrev pub bound_test : Schema → Item → CmpOp → Literal → query.Having.Having
 bound_test schema (Plain c) op l = having.Const (attribute schema c) op (literal_value l)
 bound_test schema (Aggregate func c at) op l = having.Const (attribute schema c) op (literal_value l)
 bound_test schema (Count at) op l = having.Count op (literal_number l)
 
+-- a condition of HAVING
 abbrev pub bound_having : Schema → Having → query.Having.Having
 bound_having schema h = bound_test schema h.item h.op h.literal
 
@@ -60,28 +66,30 @@ bound_having schema h = bound_test schema h.item h.op h.literal
 abbrev pub group_set : Schema → List Column → ℕ
 group_set schema group = with_members 0 (map (attribute_of schema) group)
 
--- the attributes under functions, each once with its first function, in the order of their first use
-abbrev pub is_listed : AttrId → List (AttrId × Agg) → Bool
-is_listed a aggs = list_any (λ p. p.0.0 == a.0) aggs
+-- the attribute of an item under a function, with its function
+abbrev pub item_function : Schema → Item → Option (AttrId × Agg)
+item_function schema (Plain c) = None
+item_function schema (Aggregate func c at) = Some (attribute schema c, func)
+item_function schema (Count at) = None
 
-abbrev pub with_aggregate : AttrId → Agg → List (AttrId × Agg) → List (AttrId × Agg)
-with_aggregate a func aggs = if is_listed a aggs then aggs else aggs ++ (a, func) ∷ []
+-- the attributes under functions in the order of the text
+abbrev pub functions : Schema → List Use → List (AttrId × Agg)
+functions schema uses = filter_map (λ (u : Use). item_function schema u.item) uses
 
-abbrev pub with_item : Schema → Item → List (AttrId × Agg) → List (AttrId × Agg)
-with_item schema (Plain c) aggs = aggs
-with_item schema (Aggregate func c at) aggs = with_aggregate (attribute schema c) func aggs
-with_item schema (Count at) aggs = aggs
+-- whether two of them are one attribute
+abbrev pub same_attribute : AttrId × Agg → AttrId × Agg → Bool
+same_attribute p q = p.0.0 == q.0.0
 
-abbrev pub aggs_after : Schema → List (AttrId × Agg) → List Use → List (AttrId × Agg)
-aggs_after schema aggs [] = aggs
-aggs_after schema aggs (u ∷ rest) = aggs_after schema (with_item schema u.item aggs) rest
+-- each attribute once, with its first function, in the order of first occurrence
+abbrev pub aggregates : Schema → List Use → List (AttrId × Agg)
+aggregates schema uses = firsts same_attribute (functions schema uses)
 
--- whether COUNT(*) stands anywhere
+-- whether an item is COUNT(*)
 abbrev pub is_count : Item → Bool
-is_count (Plain c) = false
-is_count (Aggregate func c at) = false
 is_count (Count at) = true
+is_count _ = false
 
+-- whether one of these is COUNT(*)
 abbrev pub has_count : List Use → Bool
 has_count uses = list_any (λ (u : Use). is_count u.item) uses
 
@@ -93,7 +101,7 @@ bound_query schema q = record {
   conds = map (bound_condition schema) (all_conditions q);
   grouped = has_group q;
   group = record { 0 = group_set schema q.group };
-  aggs = aggs_after schema [] (all_uses q);
+  aggs = aggregates schema (all_uses q);
   count = has_count (all_uses q);
   having = map (bound_having schema) q.having;
 }

@@ -1,8 +1,6 @@
+pub mod Outcome
+pub mod Faults
+pub mod Bound
 pub mod Codes
 pub mod Lookup
-pub mod Bound
-pub mod Faults
-pub mod Ranges
-pub mod Results
-pub mod Parts
-pub mod Small
+pub mod inside

@@ -1,23 +1,26 @@
 ghost use Rattle.std.specs.Prelude.{◌≡◌, ◌≤◌, [], length, IfOk};
+ghost use Rattle.mq_base.specs.Refusal.{Answers};
 ghost use Rattle.mq_base.specs.BoundQuery.{IsBound};
 ghost use Rattle.mq_base.specs.Schema.{IsSchema};
+ghost use Rattle.base_laws.specs.Firsts.{StopsAt};
 ghost use Rattle.sql_reader.specs.Syntax.{query_of};
 ghost use Rattle.sql_reader.specs.Writable.{IsWritable};
-ghost use Rattle.query_bind.specs.Bound.{aggs_after, bound_query, group_set};
-ghost use Rattle.query_bind.specs.Faults.{Answers, bare_fault, bind_outcome, grouped_fault};
+ghost use Rattle.query_bind.specs.Bound.{aggregates, bound_query, group_set};
+ghost use Rattle.query_bind.specs.Codes.{refusal_of};
+ghost use Rattle.query_bind.specs.Faults.{bare_fault, grouped_fault, items_fault};
 ghost use Rattle.query_bind.specs.Lookup.{all_uses, source_tables};
-ghost use Rattle.query_bind.specs.Parts.{staged, uses_part};
-ghost use Rattle.query_bind.specs.Ranges.{NumbersFit};
-ghost use Rattle.query_bind.specs.Results.{Tells, numbers};
+ghost use Rattle.query_bind.specs.Outcome.{bind_outcome, first_fault};
+ghost use Rattle.query_bind.specs.inside.Ranges.{NumbersFit};
+ghost use Rattle.query_bind.specs.inside.Results.{numbers};
 
-use crate::build::{bound_conditions, bound_having, bound_items, group_set, has_count};
+use crate::build::{bind_each, group_set, has_count};
 use crate::columns::check_columns;
 use crate::conditions::check_conditions;
 use crate::items::{check_bare, check_grouped, check_uses, has_group};
 use crate::nodes::check_nodes;
 use crate::refusal::BindNo;
 use crate::sources::tables_of;
-use mq_base::{Agg, AttrId, AttrSet, NoMemory, Query, Schema, Seq, TableId};
+use mq_base::{Agg, AttrId, AttrSet, NoMemory, Query, Refusing, Schema, Seq, TableId};
 use sql_reader::RawQuery;
 use std::alloc::Global;
 
@@ -37,17 +40,17 @@ use std::alloc::Global;
 pub fn bind(alloc: Global, raw: &RawQuery<'_>, schema: &Schema) -> Result<Query, BindNo>
     requires written { IsWritable (query_of raw.now) }
     requires schema { IsSchema schema.now }
-    ensures read { Answers result (bind_outcome schema.now (query_of raw.now)) }
+    ensures read { Answers ⟦<BindNo as Refusing>⟧.told result (bind_outcome schema.now (query_of raw.now)) }
     ensures bound { IfOk result (IsBound schema.now) }
 {
     bound(alloc, raw, schema)
 }
 
-/// The query with ids, or its first fault.
+// The query with ids, or its first fault.
 fn bound(alloc: Global, raw: &RawQuery<'_>, schema: &Schema) -> Result<Query, BindNo>
     requires written { IsWritable (query_of raw.now) }
     requires schema { IsSchema schema.now }
-    ensures fault { Tells result (staged schema.now (query_of raw.now)) }
+    ensures fault { StopsAt refusal_of result (first_fault schema.now (query_of raw.now)) }
     ensures bound { IfOk result (λ bound. bound ≡ bound_query schema.now (query_of raw.now)) }
     ensures fits { IfOk result (λ _. NumbersFit (query_of raw.now)) }
 {
@@ -61,7 +64,7 @@ fn bound(alloc: Global, raw: &RawQuery<'_>, schema: &Schema) -> Result<Query, Bi
     Ok(query)
 }
 
-/// The attributes under functions. The items of the select list and of HAVING can be had.
+// The attributes under functions. The items of the select list and of HAVING can be had.
 fn check_items(
     alloc: Global,
     schema: &Schema,
@@ -71,8 +74,8 @@ fn check_items(
     requires written { IsWritable (query_of raw.now) }
     requires few { length schema.now.attrs ≤ 64 }
     requires group { group.0 ≡ group_set schema.now (query_of raw.now).group }
-    ensures fault { Tells result (uses_part schema.now (query_of raw.now)) }
-    ensures aggs { IfOk result (λ aggs. aggs ≡ aggs_after schema.now [] (all_uses (query_of raw.now))) }
+    ensures fault { StopsAt refusal_of result (items_fault schema.now (query_of raw.now)) }
+    ensures aggs { IfOk result (λ aggs. aggs ≡ aggregates schema.now (all_uses (query_of raw.now))) }
 {
     if has_group(raw.group.as_slice()) {
         check_with_group(alloc, schema, group, raw)
@@ -89,22 +92,22 @@ fn check_with_group(
     raw: &RawQuery<'_>,
 ) -> Result<Seq<(AttrId, Agg)>, BindNo>
     requires { length schema.now.attrs ≤ 64 }
-    ensures fault { Tells result (grouped_fault schema.now group.0 (query_of raw.now)) }
-    ensures aggs { IfOk result (λ aggs. aggs ≡ aggs_after schema.now [] (all_uses (query_of raw.now))) }
+    ensures fault { StopsAt refusal_of result (grouped_fault schema.now group.0 (query_of raw.now)) }
+    ensures aggs { IfOk result (λ aggs. aggs ≡ aggregates schema.now (all_uses (query_of raw.now))) }
 {
     check_grouped(schema, group, raw.items.as_slice())?;
     check_uses(alloc, schema, group, raw)
 }
 
 fn check_without_group(alloc: Global, raw: &RawQuery<'_>) -> Result<Seq<(AttrId, Agg)>, BindNo>
-    ensures fault { Tells result (bare_fault (query_of raw.now)) }
+    ensures fault { StopsAt refusal_of result (bare_fault (query_of raw.now)) }
     ensures aggs { IfOk result (λ aggs. aggs ≡ []) }
 {
     check_bare(raw.items.as_slice())?;
     Ok(Seq::new(alloc))
 }
 
-/// The query with ids, of its tables, its group and the attributes under functions.
+// The query with ids, of its tables, its group and the attributes under functions.
 fn query_with(
     alloc: Global,
     schema: &Schema,
@@ -116,13 +119,17 @@ fn query_with(
     requires few { length schema.now.attrs ≤ 64 }
     requires tables { numbers tables ≡ source_tables schema.now (query_of raw.now).sources }
     requires group { group.0 ≡ group_set schema.now (query_of raw.now).group }
-    requires aggs { aggs ≡ aggs_after schema.now [] (all_uses (query_of raw.now)) }
+    requires aggs { aggs ≡ aggregates schema.now (all_uses (query_of raw.now)) }
     ensures bound { IfOk result (λ bound. bound ≡ bound_query schema.now (query_of raw.now)) }
     ensures fits { IfOk result (λ _. NumbersFit (query_of raw.now)) }
 {
-    let items = bound_items(alloc, schema, raw.items.as_slice())?;
-    let conds = bound_conditions(alloc, schema, raw.sources.as_slice(), raw.conds.as_slice())?;
-    let having = bound_having(alloc, schema, raw.having.as_slice())?;
+    let mut items = Seq::new(alloc);
+    bind_each(alloc, schema, &mut items, raw.items.as_slice())?;
+    let mut conds = Seq::new(alloc);
+    bind_each(alloc, schema, &mut conds, raw.sources.as_slice())?;
+    bind_each(alloc, schema, &mut conds, raw.conds.as_slice())?;
+    let mut having = Seq::new(alloc);
+    bind_each(alloc, schema, &mut having, raw.having.as_slice())?;
     Ok(Query {
         items,
         tables,

@@ -1,10 +1,10 @@
-ghost use Rattle.std.specs.Prelude.{◌≡◌, ◌≤◌, ◌||◌, ◌++◌, length, map, IfOk, OnOk};
+ghost use Rattle.std.specs.Prelude.{◌≡◌, ◌≤◌, ◌||◌, ◌∷◌, ◌++◌, [], All, List, length, map, IfOk, OnOk};
 ghost use Rattle.std.specs.List.{flat_map, list_any};
-ghost use Rattle.sql_reader.specs.Syntax.{column_of, condition_of, having_of, item_of, literal_of, side_of, source_of};
+ghost use Rattle.mq_base.specs.declared.schema.Schema.{Schema};
+ghost use Rattle.sql_reader.specs.Syntax.{column_of, condition_of, having_of, item_of, literal_of, side_of};
 ghost use Rattle.query_bind.specs.Bound.{bound_condition, bound_having, bound_item, bound_side, group_set, is_count};
-ghost use Rattle.query_bind.specs.Lookup.{source_conditions};
-ghost use Rattle.query_bind.specs.Ranges.{ConditionFits, Fits, HavingFits, SideFits};
-ghost use Rattle.query_bind.specs.Results.{ConditionsFit, HavingsFit, SourcesFit, const_test, selects_count, tests_count};
+ghost use Rattle.query_bind.specs.inside.Ranges.{ConditionFits, Fits, HavingFits, SideFits};
+ghost use Rattle.query_bind.specs.inside.Results.{const_test, selects_count, tests_count};
 
 use crate::literals::{literal_number, literal_value};
 use crate::names::attribute_of;
@@ -12,21 +12,76 @@ use mq_base::{AttrId, AttrSet, CmpOp, Cond, Having, Item, NoMemory, Schema, Seq}
 use sql_reader::{RawCol, RawCond, RawHaving, RawItem, RawLit, RawSide, RawSource};
 use std::alloc::Global;
 
-/// The select list with ids, repeated items included.
-#[tactic(auto, using(crate::proofs::BuildLaws::lists))]
-pub fn bound_items(
+/// A part of a query that is a list of items in the query with ids.
+pub trait Bind<B> {
+    /// The items, in order.
+    ghost bound: { Schema → Self → List B };
+
+    /// Each number of the part is within 64 bits.
+    ghost fits: { Self → Type 0 };
+
+    /// Puts the items at the end.
+    fn bind(&self, alloc: Global, schema: &Schema, out: &mut Seq<B>) -> Result<(), NoMemory>
+        requires { length schema.now.attrs ≤ 64 }
+        ensures bound { OnOk result (out.new ≡ out.old ++ bound schema.now self.now) }
+        ensures fits { OnOk result (fits self.now) };
+}
+
+/// Puts the items of each part at the end, in order.
+pub fn bind_each<B, T: Bind<B>>(
     alloc: Global,
     schema: &Schema,
-    items: &[RawItem<'_>],
-) -> Result<Seq<Item>, NoMemory>
+    out: &mut Seq<B>,
+    parts: &[T],
+) -> Result<(), NoMemory>
     requires { length schema.now.attrs ≤ 64 }
-    ensures { IfOk result (λ bound. bound ≡ map (bound_item schema.now) (map item_of items.now)) }
+    ensures bound { OnOk result (out.new ≡ out.old ++ flat_map (T.bound schema.now) parts.now) }
+    ensures fits { OnOk result (All T.fits parts.now) }
 {
-    let mut bound = Seq::new(alloc);
-    for item in items {
-        bound.push(bound_item(schema, item))?;
+    for part in parts {
+        part.bind(alloc, schema, out)?;
     }
-    Ok(bound)
+    Ok(())
+}
+
+impl Bind<Item> for RawItem<'_> {
+    ghost bound = { λ schema i. bound_item schema (item_of i) ∷ [] };
+
+    ghost fits = { λ i. Unit {0} };
+
+    fn bind(&self, _alloc: Global, schema: &Schema, out: &mut Seq<Item>) -> Result<(), NoMemory> {
+        out.push(bound_item(schema, self))
+    }
+}
+
+impl Bind<Cond> for RawCond<'_> {
+    ghost bound = { λ schema c. bound_condition schema (condition_of c) ∷ [] };
+
+    ghost fits = { λ c. ConditionFits (condition_of c) };
+
+    fn bind(&self, alloc: Global, schema: &Schema, out: &mut Seq<Cond>) -> Result<(), NoMemory> {
+        out.push(bound_condition(alloc, schema, self)?)
+    }
+}
+
+impl Bind<Cond> for RawSource<'_> {
+    ghost bound = { λ schema s. flat_map (λ c. bound_condition schema (condition_of c) ∷ []) s.on };
+
+    ghost fits = { λ s. All (λ c. ConditionFits (condition_of c)) s.on };
+
+    fn bind(&self, alloc: Global, schema: &Schema, out: &mut Seq<Cond>) -> Result<(), NoMemory> {
+        bind_each(alloc, schema, out, self.on.as_slice())
+    }
+}
+
+impl Bind<Having> for RawHaving<'_> {
+    ghost bound = { λ schema h. bound_having schema (having_of h) ∷ [] };
+
+    ghost fits = { λ h. HavingFits (having_of h) };
+
+    fn bind(&self, alloc: Global, schema: &Schema, out: &mut Seq<Having>) -> Result<(), NoMemory> {
+        out.push(bound_test(alloc, schema, self)?)
+    }
 }
 
 fn bound_item(schema: &Schema, item: &RawItem<'_>) -> Item
@@ -38,62 +93,6 @@ fn bound_item(schema: &Schema, item: &RawItem<'_>) -> Item
         RawItem::Agg { col, .. } => Item::Attr(attribute_of(schema, col)),
         RawItem::Count { .. } => Item::Count,
     }
-}
-
-/// The conditions of ON in order, and then those of WHERE, with ids.
-#[tactic(auto, using(crate::proofs::BuildLaws::lists))]
-pub fn bound_conditions(
-    alloc: Global,
-    schema: &Schema,
-    sources: &[RawSource<'_>],
-    conditions: &[RawCond<'_>],
-) -> Result<Seq<Cond>, NoMemory>
-    requires { length schema.now.attrs ≤ 64 }
-    ensures bound { IfOk result (λ bound. bound ≡ map (bound_condition schema.now) (flat_map source_conditions (map source_of sources.now))
-        ++ map (bound_condition schema.now) (map condition_of conditions.now)) }
-    ensures on { IfOk result (λ _. SourcesFit (map source_of sources.now)) }
-    ensures rest { IfOk result (λ _. ConditionsFit (map condition_of conditions.now)) }
-{
-    let mut bound = Seq::new(alloc);
-    push_sources(alloc, schema, &mut bound, sources)?;
-    push_conditions(alloc, schema, &mut bound, conditions)?;
-    Ok(bound)
-}
-
-/// Puts the conditions of the sources at the end.
-#[tactic(auto, using(crate::proofs::BuildLaws::lists))]
-fn push_sources(
-    alloc: Global,
-    schema: &Schema,
-    bound: &mut Seq<Cond>,
-    sources: &[RawSource<'_>],
-) -> Result<(), NoMemory>
-    requires { length schema.now.attrs ≤ 64 }
-    ensures bound { OnOk result (bound.new ≡ bound.old ++ map (bound_condition schema.now) (flat_map source_conditions (map source_of sources.now))) }
-    ensures fits { IfOk result (λ _. SourcesFit (map source_of sources.now)) }
-{
-    for source in sources {
-        push_conditions(alloc, schema, bound, source.on.as_slice())?;
-    }
-    Ok(())
-}
-
-/// Puts conditions at the end.
-#[tactic(auto, using(crate::proofs::BuildLaws::lists))]
-fn push_conditions(
-    alloc: Global,
-    schema: &Schema,
-    bound: &mut Seq<Cond>,
-    conditions: &[RawCond<'_>],
-) -> Result<(), NoMemory>
-    requires { length schema.now.attrs ≤ 64 }
-    ensures bound { OnOk result (bound.new ≡ bound.old ++ map (bound_condition schema.now) (map condition_of conditions.now)) }
-    ensures fits { IfOk result (λ _. ConditionsFit (map condition_of conditions.now)) }
-{
-    for condition in conditions {
-        bound.push(bound_condition(alloc, schema, condition)?)?;
-    }
-    Ok(())
 }
 
 fn bound_condition(
@@ -124,24 +123,6 @@ fn bound_side(
         RawSide::Col(column) => Ok(Cond::Attrs(left, op, attribute_of(schema, column))),
         RawSide::Lit(literal) => Ok(Cond::Const(left, op, literal_value(alloc, literal)?)),
     }
-}
-
-/// The conditions of HAVING with ids.
-#[tactic(auto, using(crate::proofs::BuildLaws::lists))]
-pub fn bound_having(
-    alloc: Global,
-    schema: &Schema,
-    having: &[RawHaving<'_>],
-) -> Result<Seq<Having>, NoMemory>
-    requires { length schema.now.attrs ≤ 64 }
-    ensures bound { IfOk result (λ bound. bound ≡ map (bound_having schema.now) (map having_of having.now)) }
-    ensures fits { IfOk result (λ _. HavingsFit (map having_of having.now)) }
-{
-    let mut bound = Seq::new(alloc);
-    for test in having {
-        bound.push(bound_test(alloc, schema, test)?)?;
-    }
-    Ok(bound)
 }
 
 fn bound_test(alloc: Global, schema: &Schema, test: &RawHaving<'_>) -> Result<Having, NoMemory>

@@ -1,14 +1,13 @@
-ghost use Rattle.std.specs.Prelude.{◌≡◌, ◌≤◌, not, [], length, map, IfOk, OnOk, option_map};
-ghost use Rattle.base_laws.specs.Firsts.{first_of};
-ghost use Rattle.base_laws.specs.Sets.{has};
+ghost use Rattle.std.specs.Prelude.{◌≡◌, ◌≤◌, [], length, map, IfOk, OnOk, option_map};
+ghost use Rattle.base_laws.specs.Firsts.{StopsAt, first_of};
 ghost use Rattle.sql_reader.specs.Syntax.{column_of, item_of, literal_of};
-ghost use Rattle.query_bind.specs.declared.refusal.BindCode.TheVariants.{NotGrouped, TypeMismatch};
-ghost use Rattle.query_bind.specs.Bound.{aggs_after, is_listed, with_aggregate, with_item};
-ghost use Rattle.query_bind.specs.Faults.{bare_item_fault, fault_if, function_fault, grouped_item_fault, is_long_literal, is_mistyped, is_no_sum, is_text, is_under_another, item_fault, same_function, uses_fault};
-ghost use Rattle.query_bind.specs.Lookup.{attribute_of, is_some_column};
-ghost use Rattle.query_bind.specs.Results.{Tells, fault_of, selected_of, tested_of, uses_of};
+ghost use Rattle.query_bind.specs.Codes.{refusal_of};
+ghost use Rattle.query_bind.specs.Faults.{bare_item_fault, function_fault, grouped_item_fault, is_long_literal, is_mistyped, is_no_sum, is_text, is_under_another, item_fault, same_function};
+ghost use Rattle.query_bind.specs.Lookup.{is_some_column};
+ghost use Rattle.query_bind.specs.inside.Gathered.{aggs_after, gathered_fault, is_listed, with_aggregate, with_item};
+ghost use Rattle.query_bind.specs.inside.Results.{fault_of, selected_of, tested_of, uses_of};
 
-use crate::fault::Fault;
+use crate::fault::{Fault, refuse_if};
 use crate::literals::{is_long, literal_type};
 use crate::names::{attribute_of, has_type};
 use crate::refusal::{BindCode, BindNo};
@@ -40,11 +39,10 @@ pub fn check_bare(items: &[RawItem<'_>]) -> Result<(), Fault>
 fn check_bare_item(item: &RawItem<'_>) -> Result<(), Fault>
     ensures { fault_of result ≡ bare_item_fault (item_of item.now) }
 {
-    let code = BindCode::AggregateWithoutGroup;
     match item {
         RawItem::Col(_) => Ok(()),
-        RawItem::Agg { at, .. } => Err(Fault { code, at: *at }),
-        RawItem::Count { at } => Err(Fault { code, at: *at }),
+        RawItem::Agg { at, .. } => Err(Fault::new(BindCode::AggregateWithoutGroup, *at)),
+        RawItem::Count { at } => Err(Fault::new(BindCode::AggregateWithoutGroup, *at)),
     }
 }
 
@@ -65,23 +63,13 @@ fn check_grouped_item(schema: &Schema, group: AttrSet, item: &RawItem<'_>) -> Re
     ensures { fault_of result ≡ grouped_item_fault schema.now group.0 (item_of item.now) }
 {
     match item {
-        RawItem::Col(column) => check_grouped_column(schema, group, column),
+        RawItem::Col(column) => {
+            let grouped = group.has(attribute_of(schema, column));
+            refuse_if(!grouped, BindCode::NotGrouped, column.at)
+        }
         RawItem::Agg { .. } => Ok(()),
         RawItem::Count { .. } => Ok(()),
     }
-}
-
-fn check_grouped_column(schema: &Schema, group: AttrSet, column: &RawCol<'_>) -> Result<(), Fault>
-    requires { length schema.now.attrs ≤ 64 }
-    ensures { fault_of result ≡ fault_if (not (has group.0 (attribute_of schema.now (column_of column.now)))) NotGrouped column.now.at }
-{
-    if group.has(attribute_of(schema, column)) {
-        return Ok(());
-    }
-    Err(Fault {
-        code: BindCode::NotGrouped,
-        at: column.at,
-    })
 }
 
 /// The attributes under functions, each with its function, in the order of their first use. Each function and count
@@ -94,7 +82,7 @@ pub fn check_uses(
     raw: &RawQuery<'_>,
 ) -> Result<Seq<(AttrId, Agg)>, BindNo>
     requires { length schema.now.attrs ≤ 64 }
-    ensures fault { Tells result (uses_fault schema.now group.0 [] (uses_of raw.now)) }
+    ensures fault { StopsAt refusal_of result (gathered_fault schema.now group.0 [] (uses_of raw.now)) }
     ensures aggs { IfOk result (λ aggs. aggs ≡ aggs_after schema.now [] (uses_of raw.now)) }
 {
     let mut aggs = Seq::new(alloc);
@@ -111,7 +99,7 @@ fn check_selected(
     items: &[RawItem<'_>],
 ) -> Result<(), BindNo>
     requires { length schema.now.attrs ≤ 64 }
-    ensures fault { Tells result (uses_fault schema.now group.0 aggs.old (map selected_of items.now)) }
+    ensures fault { StopsAt refusal_of result (gathered_fault schema.now group.0 aggs.old (map selected_of items.now)) }
     ensures aggs { OnOk result (aggs.new ≡ aggs_after schema.now aggs.old (map selected_of items.now)) }
 {
     for item in items {
@@ -128,7 +116,7 @@ fn check_tested(
     having: &[RawHaving<'_>],
 ) -> Result<(), BindNo>
     requires { length schema.now.attrs ≤ 64 }
-    ensures fault { Tells result (uses_fault schema.now group.0 aggs.old (map tested_of having.now)) }
+    ensures fault { StopsAt refusal_of result (gathered_fault schema.now group.0 aggs.old (map tested_of having.now)) }
     ensures aggs { OnOk result (aggs.new ≡ aggs_after schema.now aggs.old (map tested_of having.now)) }
 {
     for test in having {
@@ -137,7 +125,7 @@ fn check_tested(
     Ok(())
 }
 
-/// The item can be had behind the functions so far, and is noted among them.
+// The item can be had behind the functions so far, and is noted among them.
 fn check_use(
     schema: &Schema,
     group: AttrSet,
@@ -146,7 +134,7 @@ fn check_use(
     literal: Option<&RawLit<'_>>,
 ) -> Result<(), BindNo>
     requires { length schema.now.attrs ≤ 64 }
-    ensures fault { Tells result (item_fault schema.now group.0 aggs.old (item_of item.now) (option_map (λ l. literal_of l.now) literal.entry)) }
+    ensures fault { StopsAt refusal_of result (item_fault schema.now group.0 aggs.old (item_of item.now) (option_map (λ l. literal_of l.now) literal.entry)) }
     ensures aggs { OnOk result (aggs.new ≡ with_item schema.now (item_of item.now) aggs.old) }
 {
     check_item(schema, group, aggs.as_slice(), item, literal)?;
@@ -169,21 +157,8 @@ fn check_item(
         RawItem::Agg { func, col, at } => {
             check_function(schema, group, aggs, *func, col, *at, literal)
         }
-        RawItem::Count { at } => check_count(*at, literal),
+        RawItem::Count { at } => refuse_if(is_text(literal), BindCode::TypeMismatch, *at),
     }
-}
-
-/// No text stands beside the count.
-fn check_count(at: u32, literal: Option<&RawLit<'_>>) -> Result<(), Fault>
-    ensures { fault_of result ≡ fault_if (is_text (option_map (λ l. literal_of l.now) literal.entry)) TypeMismatch at }
-{
-    if is_text(literal) {
-        return Err(Fault {
-            code: BindCode::TypeMismatch,
-            at,
-        });
-    }
-    Ok(())
 }
 
 fn check_function(
@@ -199,34 +174,18 @@ fn check_function(
     ensures { fault_of result ≡ function_fault schema.now group.0 aggs.now func (column_of column.now) at (option_map (λ l. literal_of l.now) literal.entry) }
 {
     let a = attribute_of(schema, column);
-    if group.has(a) {
-        return Err(Fault {
-            code: BindCode::AggregateOfGrouped,
-            at,
-        });
-    }
-    if is_no_sum(schema, func, column) || is_mistyped(schema, column, literal) {
-        return Err(Fault {
-            code: BindCode::TypeMismatch,
-            at,
-        });
-    }
-    if is_long_literal(literal) {
-        return Err(Fault {
-            code: BindCode::TextTooLong,
-            at,
-        });
-    }
-    if is_under_another(a, func, aggs) {
-        return Err(Fault {
-            code: BindCode::RepeatedAggregate,
-            at,
-        });
-    }
-    Ok(())
+    let mistyped = is_no_sum(schema, func, column) || is_mistyped(schema, column, literal);
+    refuse_if(group.has(a), BindCode::AggregateOfGrouped, at)?;
+    refuse_if(mistyped, BindCode::TypeMismatch, at)?;
+    refuse_if(is_long_literal(literal), BindCode::TextTooLong, at)?;
+    refuse_if(
+        is_under_another(a, func, aggs),
+        BindCode::RepeatedAggregate,
+        at,
+    )
 }
 
-/// Whether it is the sum of what is no number.
+// Whether it is the sum of what is no number.
 fn is_no_sum(schema: &Schema, func: Agg, column: &RawCol<'_>) -> bool
     requires { length schema.now.attrs ≤ 64 }
     ensures { result ≡ is_no_sum schema.now func (column_of column.now) }
@@ -237,7 +196,7 @@ fn is_no_sum(schema: &Schema, func: Agg, column: &RawCol<'_>) -> bool
     }
 }
 
-/// Whether a literal has another type than the column.
+// Whether a literal has another type than the column.
 fn is_mistyped(schema: &Schema, column: &RawCol<'_>, literal: Option<&RawLit<'_>>) -> bool
     requires { length schema.now.attrs ≤ 64 }
     ensures { result ≡ is_mistyped schema.now (column_of column.now) (option_map (λ l. literal_of l.now) literal.entry) }
@@ -276,21 +235,21 @@ fn same_function(left: Agg, right: Agg) -> bool
     }
 }
 
-/// Whether the attribute stands under another of these functions.
+// Whether the attribute stands under another of these functions.
 fn is_under_another(a: AttrId, func: Agg, aggs: &[(AttrId, Agg)]) -> bool
     ensures { result ≡ is_under_another a func aggs.now }
 {
     aggs.iter().any(|(other, earlier)| other.0 == a.0 && !same_function(*earlier, func))
 }
 
-/// Whether the attribute stands under one of these functions.
+// Whether the attribute stands under one of these functions.
 fn is_listed(a: AttrId, aggs: &[(AttrId, Agg)]) -> bool
     ensures { result ≡ is_listed a aggs.now }
 {
     aggs.iter().any(|(other, _)| other.0 == a.0)
 }
 
-/// Puts the function of an item at the end, where its attribute stands under none yet.
+// Puts the function of an item at the end, where its attribute stands under none yet.
 fn note_item(
     schema: &Schema,
     aggs: &mut Seq<(AttrId, Agg)>,
@@ -305,7 +264,7 @@ fn note_item(
     note(aggs, attribute_of(schema, col), *func)
 }
 
-/// Puts a function over an attribute at the end, where the attribute stands under none yet.
+// Puts a function over an attribute at the end, where the attribute stands under none yet.
 fn note(aggs: &mut Seq<(AttrId, Agg)>, a: AttrId, func: Agg) -> Result<(), NoMemory>
     ensures { OnOk result (aggs.new ≡ with_aggregate a func aggs.old) }
 {

@@ -13,8 +13,6 @@ mod names;
 mod nodes;
 mod refusal;
 mod sources;
-#[cfg(test)]
-mod tests;
 
 pub use binding::bind;
 pub use refusal::{BindCode, BindNo};

@@ -2,14 +2,14 @@ ghost use Rattle.std.specs.Prelude.{◌≡◌, ◌≤◌, length, IfOk};
 ghost use Rattle.sql_reader.specs.Syntax.{literal_of};
 ghost use Rattle.query_bind.specs.Bound.{literal_number, literal_value, undoubled};
 ghost use Rattle.query_bind.specs.Faults.{is_long, literal_type};
-ghost use Rattle.query_bind.specs.Ranges.{Fits};
-ghost use Rattle.query_bind.specs.Results.{step_of};
+ghost use Rattle.query_bind.specs.inside.Ranges.{Fits};
+ghost use Rattle.query_bind.specs.inside.Results.{step_of};
 
 use mq_base::{NoMemory, Text, Value, ValueType};
 use sql_reader::RawLit;
 use std::alloc::Global;
 
-/// How far the byte at a place takes a walk over a text whose quotes are doubled: past both quotes of a pair.
+// How far the byte at a place takes a walk over a text whose quotes are doubled: past both quotes of a pair.
 fn step_at(byte: u8) -> usize
     ensures step { result ≡ step_of byte }
     ensures some { 1 ≤ result }
@@ -18,7 +18,7 @@ fn step_at(byte: u8) -> usize
     if byte == b'\'' { 2 } else { 1 }
 }
 
-/// The number of bytes of a text without the doubling of its quotes.
+// The number of bytes of a text without the doubling of its quotes.
 #[tactic(auto, using(crate::proofs::LiteralLaws::walks))]
 fn undoubled_len(inside: &[u8]) -> usize
     ensures { result ≡ length (undoubled inside.now) }
@@ -32,7 +32,7 @@ fn undoubled_len(inside: &[u8]) -> usize
     count
 }
 
-/// A text without the doubling of its quotes.
+// A text without the doubling of its quotes.
 #[tactic(auto, using(crate::proofs::LiteralLaws::walks))]
 fn undoubled(alloc: Global, inside: &[u8]) -> Result<Vec<u8>, NoMemory>
     ensures { IfOk result (λ text. text.items ≡ undoubled inside.now) }

@@ -6,19 +6,19 @@ ghost use Rattle.sql_reader.specs.Syntax.{column_of};
 ghost use Rattle.query_bind.specs.Bound.{attribute};
 ghost use Rattle.query_bind.specs.Faults.{has_type, same_type};
 ghost use Rattle.query_bind.specs.Lookup.{attribute_named, is_among, table_named};
-ghost use Rattle.query_bind.specs.Results.{numbers};
+ghost use Rattle.query_bind.specs.inside.Results.{numbers};
 
 use mq_base::{AttrId, AttrInfo, Schema, TableId, TableInfo, ValueType};
 use sql_reader::RawCol;
 
-/// The place of the first table with this name.
+// The place of the first table with this name.
 fn table_place(tables: &[TableInfo], name: &[u8]) -> Option<usize>
     ensures { result ≡ position (λ (info : TableInfo). bytes_eq info.name name.now) tables.now }
 {
     tables.iter().position(|info| info.name.as_bytes() == name)
 }
 
-/// The place of the first column with this name.
+// The place of the first column with this name.
 fn attribute_place(attrs: &[AttrInfo], name: &[u8]) -> Option<usize>
     ensures { result ≡ position (λ (info : AttrInfo). bytes_eq info.name name.now) attrs.now }
 {
@@ -59,7 +59,7 @@ pub fn attribute_of(schema: &Schema, column: &RawCol<'_>) -> AttrId
     }
 }
 
-/// Whether a table with this number is one of these.
+// Whether a table with this number is one of these.
 fn has_number(tables: &[TableId], number: u8) -> bool
     ensures { result ≡ list_any (λ (other : TableId). other.0 == number) tables.now }
 {
@@ -94,7 +94,7 @@ pub fn type_of(schema: &Schema, a: AttrId) -> Option<ValueType>
     }
 }
 
-/// Whether two types are one.
+// Whether two types are one.
 fn same_type(left: ValueType, right: ValueType) -> bool
     ensures { result ≡ same_type left right }
 {

@@ -1,12 +1,12 @@
-ghost use Rattle.std.specs.Prelude.{◌≡◌, ◌≤◌, ◌-◌, ◌^◌, if◌then◌else◌, All, min};
+ghost use Rattle.std.specs.Prelude.{◌≡◌, ◌≤◌, ◌-◌, ◌^◌, if◌then◌else◌, All, List, min, ℕ};
 ghost use Rattle.std.specs.List.{flat_map, list_any};
 ghost use Rattle.base_laws.specs.Sets.{with_members};
-ghost use Rattle.mq_base.specs.Nodes.{aggregated, cond_attributes, is_of, is_of_some, joins, node_count, projects, selected_set, unjoined, visible_set};
+ghost use Rattle.mq_base.specs.Nodes.{cond_attributes, is_of, is_of_some, joins, node_count, projects, unjoined, used_set, visible_set};
 ghost use Rattle.query_bind.specs.Faults.{nodes_fault};
-ghost use Rattle.query_bind.specs.Results.{fault_of};
-ghost use Rattle.query_bind.specs.Small.{IsSmall, IsSmallAgg, IsSmallCond, IsSmallItem, with_item};
+ghost use Rattle.query_bind.specs.inside.Results.{fault_of};
+ghost use Rattle.query_bind.specs.inside.Small.{AreSmall, IsSmall, agg_attributes, item_attributes};
 
-use crate::fault::Fault;
+use crate::fault::{Fault, refuse_if};
 use crate::names::table_of;
 use crate::refusal::BindCode;
 use mq_base::{Agg, AttrId, AttrSet, Cond, Item, Query, Schema, TableId};
@@ -16,16 +16,10 @@ pub fn check_nodes(schema: &Schema, query: &Query) -> Result<(), Fault>
     requires { IsSmall query.now }
     ensures { fault_of result ≡ nodes_fault schema.now query.now }
 {
-    if node_count(schema, query) > 64 {
-        return Err(Fault {
-            code: BindCode::TooManyNodes,
-            at: 0,
-        });
-    }
-    Ok(())
+    refuse_if(node_count(schema, query) > 64, BindCode::TooManyNodes, 0)
 }
 
-/// The number of nodes of the query's plan, cut at the largest number.
+// The number of nodes of the query's plan, cut at the largest number.
 #[tactic(auto, unfolding(mq_base::specs::Nodes::node_count))]
 fn node_count(schema: &Schema, query: &Query) -> usize
     requires { IsSmall query.now }
@@ -42,7 +36,7 @@ fn node_count(schema: &Schema, query: &Query) -> usize
         .saturating_add(ends)
 }
 
-/// How many tables after the first no condition joins to an earlier one.
+// How many tables after the first no condition joins to an earlier one.
 #[tactic(auto, using(crate::proofs::NodeLaws::tables))]
 fn unjoined(schema: &Schema, conds: &[Cond], tables: &[TableId]) -> usize
     ensures { result ≡ unjoined schema.now conds.now tables.now }
@@ -54,7 +48,7 @@ fn unjoined(schema: &Schema, conds: &[Cond], tables: &[TableId]) -> usize
     count
 }
 
-/// 1 where no condition joins the table to one before it.
+// 1 where no condition joins the table to one before it.
 fn one_unless_joined(schema: &Schema, conds: &[Cond], earlier: &[TableId], t: TableId) -> usize
     ensures one { result ≡ (if list_any (joins schema.now earlier.now t) conds.now then 0 else 1) }
     ensures small { result ≤ 1 }
@@ -66,7 +60,7 @@ fn one_unless_joined(schema: &Schema, conds: &[Cond], earlier: &[TableId], t: Ta
     }
 }
 
-/// Whether a condition compares an attribute of this table with one of the tables before it.
+// Whether a condition compares an attribute of this table with one of the tables before it.
 fn is_joined(schema: &Schema, conds: &[Cond], earlier: &[TableId], t: TableId) -> bool
     ensures { result ≡ list_any (joins schema.now earlier.now t) conds.now }
 {
@@ -100,81 +94,89 @@ fn is_of(schema: &Schema, t: TableId, a: AttrId) -> bool
     }
 }
 
-/// Whether a projection ends the plan.
+// Whether a projection ends the plan.
+#[tactic(auto, using(crate::proofs::NodeLaws::names))]
 fn projects(query: &Query) -> bool
     requires { IsSmall query.now }
     ensures { result ≡ projects query.now }
 {
-    selected_set(query.items.as_slice()).0 != visible_set(query).0
+    with_each(AttrSet::EMPTY, query.items.as_slice()).0 != visible_set(query).0
 }
 
-/// The attributes that are visible before the selected ones are kept.
+// The attributes that are visible before the selected ones are kept.
+#[tactic(auto, using(crate::proofs::NodeLaws::names))]
 fn visible_set(query: &Query) -> AttrSet
     requires { IsSmall query.now }
     ensures { result.0 ≡ visible_set query.now }
 {
     if query.grouped {
-        with_aggregated(query.group, query.aggs.as_slice())
+        with_each(query.group, query.aggs.as_slice())
     } else {
-        with_conditions(selected_set(query.items.as_slice()), query.conds.as_slice())
+        used_set(query)
     }
 }
 
-/// The selected attributes.
-#[tactic(auto, using(crate::proofs::NodeLaws::sets))]
-fn selected_set(items: &[Item]) -> AttrSet
-    requires { All IsSmallItem items.now }
-    ensures { result.0 ≡ selected_set items.now }
+// All attributes that the query names.
+#[tactic(auto, using(crate::proofs::NodeLaws::names))]
+fn used_set(query: &Query) -> AttrSet
+    requires { IsSmall query.now }
+    ensures { result.0 ≡ used_set query.now }
 {
-    let mut set = AttrSet::EMPTY;
-    for item in items {
-        set = with_item(set, *item);
-    }
-    set
+    let selected = with_each(query.group, query.items.as_slice());
+    let compared = with_each(selected, query.conds.as_slice());
+    with_each(compared, query.aggs.as_slice())
 }
 
-fn with_item(set: AttrSet, item: Item) -> AttrSet
-    requires { IsSmallItem item }
-    ensures { result.0 ≡ with_item set.0 item }
-{
-    match item {
-        Item::Attr(a) => set.with(a),
-        Item::Count => set,
-    }
+// A part of a query with ids, which names attributes.
+trait Named {
+    // The attributes.
+    ghost attributes: { Self → List ℕ };
+
+    // A set with each of them.
+    fn add_to(&self, set: AttrSet) -> AttrSet
+        requires { AreSmall (attributes self.now) }
+        ensures { result.0 ≡ with_members set.0 (attributes self.now) };
 }
 
-/// A set with the attributes that conditions name.
+// A set with the attributes of each part.
 #[tactic(auto, using(crate::proofs::NodeLaws::sets))]
-fn with_conditions(from: AttrSet, conds: &[Cond]) -> AttrSet
-    requires { All IsSmallCond conds.now }
-    ensures { result.0 ≡ with_members from.0 (flat_map cond_attributes conds.now) }
+fn with_each<T: Named>(from: AttrSet, parts: &[T]) -> AttrSet
+    requires { All (λ x. AreSmall (T.attributes x)) parts.now }
+    ensures { result.0 ≡ with_members from.0 (flat_map T.attributes parts.now) }
 {
     let mut set = from;
-    for cond in conds {
-        set = with_condition(set, cond);
+    for part in parts {
+        set = part.add_to(set);
     }
     set
 }
 
-fn with_condition(set: AttrSet, cond: &Cond) -> AttrSet
-    requires { IsSmallCond cond.now }
-    ensures { result.0 ≡ with_members set.0 (cond_attributes cond.now) }
-{
-    match cond {
-        Cond::Const(a, _, _) => set.with(*a),
-        Cond::Attrs(a, _, b) => set.with(*a).with(*b),
+impl Named for Item {
+    ghost attributes = { item_attributes };
+
+    fn add_to(&self, set: AttrSet) -> AttrSet {
+        match self {
+            Item::Attr(a) => set.with(*a),
+            Item::Count => set,
+        }
     }
 }
 
-/// A set with the attributes under functions.
-#[tactic(auto, using(crate::proofs::NodeLaws::sets))]
-fn with_aggregated(from: AttrSet, aggs: &[(AttrId, Agg)]) -> AttrSet
-    requires { All IsSmallAgg aggs.now }
-    ensures { result.0 ≡ with_members from.0 (aggregated aggs.now) }
-{
-    let mut set = from;
-    for (a, _) in aggs {
-        set = set.with(*a);
+impl Named for Cond {
+    ghost attributes = { cond_attributes };
+
+    fn add_to(&self, set: AttrSet) -> AttrSet {
+        match self {
+            Cond::Const(a, _, _) => set.with(*a),
+            Cond::Attrs(a, _, b) => set.with(*a).with(*b),
+        }
     }
-    set
+}
+
+impl Named for (AttrId, Agg) {
+    ghost attributes = { agg_attributes };
+
+    fn add_to(&self, set: AttrSet) -> AttrSet {
+        set.with(self.0)
+    }
 }

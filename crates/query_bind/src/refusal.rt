@@ -2,6 +2,7 @@ ghost use Rattle.std.specs.Prelude.{◌≡◌};
 ghost use Rattle.query_bind.specs.Codes.{number_of};
 ghost use Rattle.query_bind.specs.declared.refusal.BindNo.TheVariants.{NoMemory};
 
+use mq_base::{Refusal, Refusing};
 use std::alloc::{AllocError, AllocFailed};
 use std::error::Error;
 use std::fmt;
@@ -78,6 +79,23 @@ impl fmt::Display for BindNo {
 }
 
 impl Error for BindNo {}
+
+impl Refusing for BindNo {
+    ghost use Rattle.query_bind.specs.Codes.{refusal_of};
+
+    ghost told = { refusal_of };
+
+    fn refusal(&self) -> Option<Refusal> {
+        match self {
+            BindNo::Refused { code, at } => Some(Refusal {
+                code: code.number(),
+                at: u64::from(*at),
+                item: 0,
+            }),
+            BindNo::NoMemory => None,
+        }
+    }
+}
 
 impl From<AllocError> for BindNo {
     ghost from_gives = { λ _ e. e ≡ NoMemory };

@@ -2,7 +2,8 @@
 use Rattle.std.proofs.Common.{◌≡◌, ◌≢◌, ℕ, ◌<◌, ◌==◌, true, false, arith}
 use Rattle.std.specs.Char.{is_ascii_digit}
 use Rattle.std.proofs.lemmas.Bool.Decides.{nat_tests}
-use Rattle.sql_lexer.specs.Lexing.{is_white, is_letter, is_word_byte, is_quote, is_short_symbol, is_long_symbol}
+use Rattle.word_forms.specs.Words.{is_first, is_later}
+use Rattle.sql_lexer.specs.Lexing.{is_white, is_quote, is_short_symbol, is_long_symbol}
 
 pub quote_is : (b : ℕ) → b ≡ 39 → is_quote b ≡ true
 quote_is b same = grind (arith, nat_tests)
@@ -20,19 +21,19 @@ pub is_from_minus : (b : ℕ) → (b == 45) ≡ true → b ≡ 45
 is_from_minus b minus = grind (arith, nat_tests)
 
 -- a letter or a digit is no white space
-pub letter_no_white : (b : ℕ) → is_letter b ≡ true → is_white b ≡ false
+pub letter_no_white : (b : ℕ) → is_first b ≡ true → is_white b ≡ false
 letter_no_white b letter = grind (arith, nat_tests)
 
 pub digit_no_white : (b : ℕ) → is_ascii_digit b ≡ true → is_white b ≡ false
 digit_no_white b digit = grind (arith, nat_tests)
 
-pub digit_no_letter : (b : ℕ) → is_ascii_digit b ≡ true → is_letter b ≡ false
+pub digit_no_letter : (b : ℕ) → is_ascii_digit b ≡ true → is_first b ≡ false
 digit_no_letter b digit = grind (arith, nat_tests)
 
 -- the byte begins no token but a symbol, and is no white space
 pub record IsApart (b : ℕ) : Type 0 where
   pub no_white : is_white b ≡ false
-  pub no_letter : is_letter b ≡ false
+  pub no_letter : is_first b ≡ false
   pub no_digit : is_ascii_digit b ≡ false
   pub no_minus : (b == 45) ≡ false
   pub no_quote : is_quote b ≡ false
@@ -56,10 +57,10 @@ long_apart a b symbol = record {
 }
 
 -- bytes of tokens are ASCII, but for the inside of a text
-pub letter_ascii : (b : ℕ) → is_letter b ≡ true → b < 128
+pub letter_ascii : (b : ℕ) → is_first b ≡ true → b < 128
 letter_ascii b letter = grind (arith, nat_tests)
 
-pub word_byte_ascii : (b : ℕ) → is_word_byte b ≡ true → b < 128
+pub word_byte_ascii : (b : ℕ) → is_later b ≡ true → b < 128
 word_byte_ascii b word = grind (arith, nat_tests)
 
 pub digit_ascii : (b : ℕ) → is_ascii_digit b ≡ true → b < 128

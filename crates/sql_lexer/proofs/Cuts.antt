@@ -6,10 +6,11 @@ use Rattle.std.specs.Str.{IsCharBoundary}
 use Rattle.std.proofs.lemmas.Str.{IsCharBoundary-after_ascii}
 use Rattle.sql_lexer.specs.declared.token.TokenKind.{TokenKind}
 use Rattle.sql_lexer.specs.declared.token.TokenKind.TheVariants.{Word, Number, Text, Symbol}
-use Rattle.sql_lexer.specs.Lexing.{is_white, is_word_byte}
+use Rattle.word_forms.specs.Words.{is_first, is_later}
+use Rattle.sql_lexer.specs.Lexing.{is_white}
 use Rattle.sql_lexer.specs.Longest.{AreDigits, IsToken, IsLongest}
 use Rattle.sql_lexer.proofs.Bytes.{letter_ascii, word_byte_ascii, digit_ascii, white_ascii, short_ascii, long_ascii}
-use Rattle.sql_lexer.proofs.Runs.{both}
+use Rattle.base_laws.proofs.BoolLaws.{both}
 
 -- the last of the bytes is ASCII
 abbrev EndsAscii : List ℕ → Type 0
@@ -38,8 +39,9 @@ behind-ends b [] ends = absurd ends
 behind-ends b (c ∷ rest) ends = ends
 
 token-ends : (kind : TokenKind) (text : List ℕ) → IsToken kind text → EndsAscii text
-token-ends Word [] word = word
-token-ends Word (b ∷ rest) word = run-ends is_word_byte word_byte_ascii b rest (letter_ascii b word.0) word.1
+token-ends Word [] word = cc
+token-ends Word (b ∷ rest) word =
+    let parts = both (is_first b) (list_all is_later rest) word in run-ends is_later word_byte_ascii b rest (letter_ascii b parts.0) parts.1
 token-ends Number [] number = number
 token-ends Number (b ∷ rest) number = by_sign number
   where

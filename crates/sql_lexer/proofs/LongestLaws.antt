@@ -1,14 +1,16 @@
 -- What stands in front is a token, and the longest that can be taken; what is refused begins none.
 use Rattle.std.proofs.Common.{◌≡◌, ◌≢◌, ◌⊎◌, inl, inr, ℕ, suc, ◌+◌, ◌<◌, ◌≤◌, ◌==◌, true, false, List, [], ◌∷◌, ◌++◌, length, take, drop, get_or, Option, Some, None, refl, sym, ap, subst, ◌∙◌, arith, append_assoc, length-append, length-take-le, take-append-drop}
 use Rattle.std.specs.Prelude.{IfSome}
-use Rattle.std.specs.List.{prefix_len}
+use Rattle.std.specs.List.{prefix_len, list_all}
+use Rattle.base_laws.proofs.BoolLaws.{both, together}
 use Rattle.std.specs.Char.{is_ascii_digit}
 use Rattle.std.proofs.lemmas.List.Sums.{prefix_len-le-length}
 use Rattle.sql_lexer.specs.declared.token.TokenKind.{TokenKind}
 use Rattle.sql_lexer.specs.declared.token.TokenKind.TheVariants.{Word, Number, Text, Symbol}
 use Rattle.sql_lexer.specs.declared.fronts.Front.{Front}
 use Rattle.sql_lexer.specs.declared.fronts.Front.TheVariants.{White, Taken, Bad, Open}
-use Rattle.sql_lexer.specs.Lexing.{is_white, is_letter, is_word_byte, is_quote, is_short_symbol, is_long_symbol, text_end, quoted, minus_front, symbol_front, front_of}
+use Rattle.word_forms.specs.Words.{is_first, is_later}
+use Rattle.sql_lexer.specs.Lexing.{is_white, is_quote, is_short_symbol, is_long_symbol, text_end, quoted, minus_front, symbol_front, front_of}
 use Rattle.sql_lexer.specs.Longest.{IsWord, AreDigits, IsNumber, IsText, IsSymbol, IsToken, IsOpen, StandsBefore}
 use Rattle.sql_lexer.proofs.Bytes.{is_from_quote, is_not_from_quote, is_from_minus, letter_no_white, digit_no_white, digit_no_letter, IsApart, short_apart, long_apart}
 use Rattle.sql_lexer.proofs.Runs.{branch, chosen_first, chosen_second, one_and, two_and, all_in_run, run-append}
@@ -22,8 +24,8 @@ IsFound bytes (Taken kind n) = (n ≤ length bytes) × IsToken kind (take n byte
 IsFound bytes Bad = (is_white (get_or bytes 0 0) ≡ false) × (get_or bytes 0 0 ≢ 39)
 IsFound bytes Open = IsOpen bytes
 
-word_found : (b : ℕ) (rest : List ℕ) → is_letter b ≡ true → IsFound (b ∷ rest) (Taken Word (1 + prefix_len is_word_byte rest))
-word_found b rest letter = rw one_and (omega (arith, prefix_len-le-length is_word_byte rest), (letter, all_in_run is_word_byte rest))
+word_found : (b : ℕ) (rest : List ℕ) → is_first b ≡ true → IsFound (b ∷ rest) (Taken Word (1 + prefix_len is_later rest))
+word_found b rest letter = rw one_and (omega (arith, prefix_len-le-length is_later rest), together (is_first b) (list_all is_later (take (prefix_len is_later rest) rest)) letter (all_in_run is_later rest))
 
 number_found : (b : ℕ) (rest : List ℕ) → is_ascii_digit b ≡ true → IsFound (b ∷ rest) (Taken Number (1 + prefix_len is_ascii_digit rest))
 number_found b rest digit =
@@ -54,7 +56,7 @@ front_of-found [] = (refl, omega arith)
 front_of-found (b ∷ rest) =
     let P : Front → Type 0 = IsFound (b ∷ rest) in
     branch P (is_white b) _ _ (λ white. white) (λ no_white.
-    branch P (is_letter b) _ _ (word_found b rest) (λ no_letter.
+    branch P (is_first b) _ _ (word_found b rest) (λ no_letter.
     branch P (is_ascii_digit b) _ _ (number_found b rest) (λ no_digit.
     branch P (b == 45) _ _ (λ minus. minus_found b rest (is_from_minus b minus)) (λ no_minus.
     branch P (is_quote b) _ _
@@ -62,14 +64,15 @@ front_of-found (b ∷ rest) =
     (λ no_quote. symbol_found b rest no_white (is_not_from_quote b no_quote))))))
 
 -- a word in front is taken whole
-pub word_front : (text more : List ℕ) → IsWord text → front_of (text ++ more) ≡ Taken Word (length text + prefix_len is_word_byte more)
+pub word_front : (text more : List ℕ) → IsWord text → front_of (text ++ more) ≡ Taken Word (length text + prefix_len is_later more)
 unfolding front_of
-word_front [] more word = absurd word
+word_front [] more word = cc
 word_front (b ∷ rest) more word =
-    let count : 1 + prefix_len is_word_byte (rest ++ more) ≡ suc (length rest) + prefix_len is_word_byte more =
-    omega (arith, run-append is_word_byte rest more word.1) in
-    chosen_second (is_white b) White _ (letter_no_white b word.0)
-    ∙ chosen_first (is_letter b) (Taken Word (1 + prefix_len is_word_byte (rest ++ more))) _ word.0
+    let parts = both (is_first b) (list_all is_later rest) word in
+    let count : 1 + prefix_len is_later (rest ++ more) ≡ suc (length rest) + prefix_len is_later more =
+    omega (arith, run-append is_later rest more parts.1) in
+    chosen_second (is_white b) White _ (letter_no_white b parts.0)
+    ∙ chosen_first (is_first b) (Taken Word (1 + prefix_len is_later (rest ++ more))) _ parts.0
     ∙ ap (λ n. Taken Word n) count
 
 digits_front : (text more : List ℕ) → AreDigits text → front_of (text ++ more) ≡ Taken Number (length text + prefix_len is_ascii_digit more)
@@ -79,7 +82,7 @@ digits_front (b ∷ rest) more digits =
     let count : 1 + prefix_len is_ascii_digit (rest ++ more) ≡ suc (length rest) + prefix_len is_ascii_digit more =
     omega (arith, run-append is_ascii_digit rest more digits.1) in
     chosen_second (is_white b) White _ (digit_no_white b digits.0)
-    ∙ chosen_second (is_letter b) (Taken Word (1 + prefix_len is_word_byte (rest ++ more))) _ (digit_no_letter b digits.0)
+    ∙ chosen_second (is_first b) (Taken Word (1 + prefix_len is_later (rest ++ more))) _ (digit_no_letter b digits.0)
     ∙ chosen_first (is_ascii_digit b) (Taken Number (1 + prefix_len is_ascii_digit (rest ++ more))) _ digits.0
     ∙ ap (λ n. Taken Number n) count
 
@@ -114,7 +117,7 @@ pub front_of-apart : (b : ℕ) (rest : List ℕ) → IsApart b → front_of (b �
 unfolding front_of
 front_of-apart b rest apart =
     chosen_second (is_white b) White _ apart.no_white
-    ∙ chosen_second (is_letter b) (Taken Word (1 + prefix_len is_word_byte rest)) _ apart.no_letter
+    ∙ chosen_second (is_first b) (Taken Word (1 + prefix_len is_later rest)) _ apart.no_letter
     ∙ chosen_second (is_ascii_digit b) (Taken Number (1 + prefix_len is_ascii_digit rest)) _ apart.no_digit
     ∙ chosen_second (b == 45) (minus_front rest) _ apart.no_minus
     ∙ chosen_second (is_quote b) (quoted (text_end rest)) (symbol_front (b ∷ rest)) apart.no_quote

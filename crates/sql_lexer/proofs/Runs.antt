@@ -1,7 +1,8 @@
 -- Runs of bytes that pass a test, and tests of single bytes.
-use Rattle.std.proofs.Common.{◌≡◌, ℕ, suc, ◌+◌, Bool, true, false, ◌&&◌, List, [], ◌∷◌, ◌++◌, length, take, refl, arith}
+use Rattle.std.proofs.Common.{◌≡◌, ℕ, suc, ◌+◌, Bool, true, false, List, [], ◌∷◌, ◌++◌, length, take, refl, arith}
 use Rattle.std.specs.Prelude.{if◌then◌else◌}
 use Rattle.std.specs.List.{prefix_len, list_all}
+use Rattle.base_laws.proofs.BoolLaws.{both}
 
 -- what holds of each of two values, under the test that chooses it, holds of the one that is chosen
 pub branch : {X : Type 0} (P : X → Type 0) (test : Bool) (x y : X) → (test ≡ true → P x) → (test ≡ false → P y)
@@ -29,12 +30,6 @@ all_in_run test [] = refl
 all_in_run test (b ∷ rest) =
     branch (λ n. list_all test (take n (b ∷ rest)) ≡ true) (test b) (1 + prefix_len test rest) 0
     (λ passes. rw (one_and (prefix_len test rest), passes) (all_in_run test rest)) (λ fails. refl)
-
--- of two tests that pass together each passes
-pub both : (x y : Bool) → (x && y) ≡ true → (x ≡ true) × (y ≡ true)
-both true true all = (refl, refl)
-both true false all = cc
-both false y all = cc
 
 -- bytes that pass begin a run
 pub run-append : (test : ℕ → Bool) (bytes more : List ℕ) → list_all test bytes ≡ true

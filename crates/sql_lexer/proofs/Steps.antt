@@ -1,7 +1,8 @@
 -- What stands in front decides the tokens of the rest of a text.
 use Rattle.std.proofs.Common.{◌≡◌, ℕ, zero, suc, ◌+◌, ◌-◌, ◌<◌, List, [], ◌∷◌, length, take, drop, Ok, Err, refl, sym, ap, ◌∙◌, arith, add-zero}
 use Rattle.sql_lexer.specs.declared.token.TokenKind.{TokenKind}
-use Rattle.sql_lexer.specs.declared.refusal.LexNo.TheVariants.{BadChar, OpenText}
+use Rattle.mq_base.specs.Refusal.{refusal}
+use Rattle.sql_lexer.specs.Codes.{bad_char, open_text}
 use Rattle.sql_lexer.specs.declared.fronts.Front.TheVariants.{White, Taken, Bad, Open}
 use Rattle.sql_lexer.specs.Lexing.{front_of, lexed_from, with_first}
 
@@ -33,12 +34,12 @@ lexed_from-taken at (b ∷ rest) kind (suc n) front filled some =
     let place : at + 1 + n ≡ at + suc n = omega arith in
     rw (front, lexed_from, less, lexed_from-skip n (at + 1) rest, place) refl
 
-pub lexed_from-bad : (at : ℕ) (rest : List ℕ) → front_of rest ≡ Bad → 0 < length rest → lexed_from 0 at rest ≡ Err (BadChar at)
+pub lexed_from-bad : (at : ℕ) (rest : List ℕ) → front_of rest ≡ Bad → 0 < length rest → lexed_from 0 at rest ≡ Err (refusal bad_char at 0)
 unfolding lexed_from
 lexed_from-bad at [] front some = absurd (omega arith)
 lexed_from-bad at (b ∷ rest) front some = rw (front, lexed_from) refl
 
-pub lexed_from-open : (at : ℕ) (rest : List ℕ) → front_of rest ≡ Open → 0 < length rest → lexed_from 0 at rest ≡ Err (OpenText at)
+pub lexed_from-open : (at : ℕ) (rest : List ℕ) → front_of rest ≡ Open → 0 < length rest → lexed_from 0 at rest ≡ Err (refusal open_text at 0)
 unfolding lexed_from
 lexed_from-open at [] front some = absurd (omega arith)
 lexed_from-open at (b ∷ rest) front some = rw (front, lexed_from) refl

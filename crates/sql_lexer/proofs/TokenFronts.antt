@@ -6,7 +6,8 @@ use Rattle.std.proofs.lemmas.List.{take_at, drop_at}
 use Rattle.sql_lexer.specs.declared.token.TokenKind.{TokenKind}
 use Rattle.sql_lexer.specs.declared.token.TokenKind.TheVariants.{Word, Number, Text, Symbol}
 use Rattle.sql_lexer.specs.declared.fronts.Front.TheVariants.{Taken, Bad}
-use Rattle.sql_lexer.specs.Lexing.{is_word_byte, is_quote, is_short_symbol, is_long_symbol, text_end, quoted, symbol_front, front_of, lexed_from, with_first}
+use Rattle.word_forms.specs.Words.{is_later}
+use Rattle.sql_lexer.specs.Lexing.{is_quote, is_short_symbol, is_long_symbol, text_end, quoted, symbol_front, front_of, lexed_from, with_first}
 use Rattle.sql_lexer.specs.Longest.{IsWord, IsNumber, IsInside}
 use Rattle.sql_lexer.proofs.Bytes.{short_apart, long_apart}
 use Rattle.sql_lexer.proofs.Runs.{chosen_first, chosen_second}
@@ -25,9 +26,9 @@ prefix_len-stops test [] stops = refl
 prefix_len-stops test (b ∷ rest) stops = rw stops refl
 
 -- a word in front of a byte that goes on with none
-pub word_alone : (text more : List ℕ) → IsWord text → Stops is_word_byte more → front_of (text ++ more) ≡ Taken Word (length text)
+pub word_alone : (text more : List ℕ) → IsWord text → Stops is_later more → front_of (text ++ more) ≡ Taken Word (length text)
 word_alone text more word stops =
-    let count : length text + prefix_len is_word_byte more ≡ length text = omega (arith, prefix_len-stops is_word_byte more stops) in
+    let count : length text + prefix_len is_later more ≡ length text = omega (arith, prefix_len-stops is_later more stops) in
     word_front text more word ∙ ap (λ n. Taken Word n) count
 
 -- a number in front of no digit

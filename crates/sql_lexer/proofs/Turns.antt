@@ -5,8 +5,9 @@ use Rattle.std.proofs.lemmas.List.{map_push, append-nil}
 use Rattle.std.proofs.lemmas.Str.{IsUtf8-drop}
 use Rattle.sql_lexer.specs.declared.token.TokenKind.{TokenKind}
 use Rattle.sql_lexer.specs.declared.token.Token.{Token}
-use Rattle.sql_lexer.specs.declared.refusal.LexNo.{LexNo}
-use Rattle.sql_lexer.specs.declared.refusal.LexNo.TheVariants.{BadChar, OpenText}
+use Rattle.mq_base.specs.declared.refusal.Refusal.{Refusal}
+use Rattle.mq_base.specs.Refusal.{refusal}
+use Rattle.sql_lexer.specs.Codes.{bad_char, open_text}
 use Rattle.sql_lexer.specs.declared.fronts.Front.TheVariants.{White, Taken, Bad, Open}
 use Rattle.sql_lexer.specs.Lexing.{front_of, lexed, lexed_from, with_first, Lexeme, lexeme}
 use Rattle.sql_lexer.specs.Longest.{IsLongest}
@@ -15,15 +16,15 @@ use Rattle.sql_lexer.proofs.Cuts.{longest_cut, white_cut}
 use Rattle.sql_lexer.proofs.Steps.{lexed_from-white, lexed_from-taken, lexed_from-bad, lexed_from-open, lexed_from-end}
 
 -- the tokens of the rest of a text, behind those before
-abbrev pub behind : List Lexeme → Result (List Lexeme) LexNo → Result (List Lexeme) LexNo
+abbrev pub behind : List Lexeme → Result (List Lexeme) Refusal → Result (List Lexeme) Refusal
 behind xs (Ok ys) = Ok (xs ++ ys)
 behind xs (Err e) = Err e
 
-behind-none : (r : Result (List Lexeme) LexNo) → behind [] r ≡ r
+behind-none : (r : Result (List Lexeme) Refusal) → behind [] r ≡ r
 behind-none (Ok ys) = refl
 behind-none (Err e) = refl
 
-behind-push : (xs : List Lexeme) (x : Lexeme) (r : Result (List Lexeme) LexNo)
+behind-push : (xs : List Lexeme) (x : Lexeme) (r : Result (List Lexeme) Refusal)
     → behind xs (with_first x r) ≡ behind (xs ++ x ∷ []) r
 behind-push xs x (Ok ys) = ap (λ (zs : List Lexeme). Ok zs) (sym (append_assoc xs (x ∷ []) ys))
 behind-push xs x (Err e) = refl
@@ -74,7 +75,7 @@ module _ (source : List ℕ) (ts : List Token) (rest : List ℕ) (next : Next so
       let longest : IsLongest kind n rest = front_stands rest (Taken kind n) front in
       let filled : 0 < n = (longest_cut kind n rest longest).0 in
       let place : ℕ = length source - length rest in
-      let later : Result (List Lexeme) LexNo = lexed_from 0 (length source - length (drop n rest)) (drop n rest) in
+      let later : Result (List Lexeme) Refusal = lexed_from 0 (length source - length (drop n rest)) (drop n rest) in
       rw left (record {
         within = omega (arith, next.within, length-drop n rest);
         utf8 = IsUtf8-drop rest n next.utf8 (cut-taken kind n front);
@@ -94,10 +95,10 @@ module _ (source : List ℕ) (ts : List Token) (rest : List ℕ) (next : Next so
       omega (arith, length-drop n rest, (longest_cut kind n rest longest).0, longest.within)
 
   -- the refusals, and the end
-  pub next-bad : Bad ≡ front_of rest → 0 < length rest → lexed source ≡ Err (BadChar (length source - length rest))
+  pub next-bad : Bad ≡ front_of rest → 0 < length rest → lexed source ≡ Err (refusal bad_char (length source - length rest) 0)
   next-bad front some = next.whole ∙ ap (behind (map lexeme ts)) (lexed_from-bad (length source - length rest) rest (sym front) some)
 
-  pub next-open : Open ≡ front_of rest → 0 < length rest → lexed source ≡ Err (OpenText (length source - length rest))
+  pub next-open : Open ≡ front_of rest → 0 < length rest → lexed source ≡ Err (refusal open_text (length source - length rest) 0)
   next-open front some = next.whole ∙ ap (behind (map lexeme ts)) (lexed_from-open (length source - length rest) rest (sym front) some)
 
   pub next-end : length rest ≡ 0 → lexed source ≡ Ok (map lexeme ts)

@@ -1,27 +1,21 @@
 -- What tokens a text has, or which refusal is the first in it. docs/FORMATS.md, "Query", tells it in prose.
 -- A text is a list of bytes, and a place is counted in bytes from 0.
-use Rattle.std.specs.Prelude.{◌≡◌, ℕ, zero, suc, ◌+◌, ◌-◌, Bool, ◌||◌, ◌==◌, if◌then◌else◌, List, [], ◌∷◌, map, take, codes, bytes_eq, Option, Some, None, option_map, Result, Ok, Err}
+use Rattle.std.specs.Prelude.{ℕ, zero, suc, ◌+◌, ◌-◌, Bool, ◌||◌, ◌==◌, if◌then◌else◌, List, [], ◌∷◌, take, codes, bytes_eq, Option, Some, None, option_map, Result, Ok, Err}
 use Rattle.std.specs.List.{prefix_len, list_any}
-use Rattle.std.specs.Char.{is_ascii_digit, is_ascii_alphabetic, is_ascii_alphanumeric}
+use Rattle.std.specs.Char.{is_ascii_digit}
+use Rattle.word_forms.specs.Words.{is_first, is_later}
 use Rattle.sql_lexer.specs.declared.token.TokenKind.{TokenKind}
 use Rattle.sql_lexer.specs.declared.token.TokenKind.TheVariants.{Word, Number, Text, Symbol}
 use Rattle.sql_lexer.specs.declared.token.Token.{Token}
-use Rattle.sql_lexer.specs.declared.refusal.LexNo.{LexNo}
-use Rattle.sql_lexer.specs.declared.refusal.LexNo.TheVariants.{BadChar, OpenText, NoMemory}
+use Rattle.mq_base.specs.declared.refusal.Refusal.{Refusal}
+use Rattle.mq_base.specs.Refusal.{refusal}
+use Rattle.sql_lexer.specs.Codes.{bad_char, open_text}
 use Rattle.sql_lexer.specs.declared.fronts.Front.{Front}
 use Rattle.sql_lexer.specs.declared.fronts.Front.TheVariants.{White, Taken, Bad, Open}
 
 -- white space: space, tab, CR and LF
 abbrev pub is_white : ℕ → Bool
 is_white b = b == 32 || b == 9 || b == 13 || b == 10
-
--- a byte that may begin a word: a letter of ASCII or `_`
-abbrev pub is_letter : ℕ → Bool
-is_letter b = is_ascii_alphabetic b || b == 95
-
--- a byte that may go on with a word: a letter or a digit of ASCII, or `_`
-abbrev pub is_word_byte : ℕ → Bool
-is_word_byte b = is_ascii_alphanumeric b || b == 95
 
 -- a quote, which begins and ends a text
 abbrev pub is_quote : ℕ → Bool
@@ -74,7 +68,7 @@ unfoldable pub front_of : List ℕ → Front
 front_of [] = Bad
 front_of (b ∷ rest) =
     if is_white b then White
-    else (if is_letter b then Taken Word (1 + prefix_len is_word_byte rest)
+    else (if is_first b then Taken Word (1 + prefix_len is_later rest)
     else (if is_ascii_digit b then Taken Number (1 + prefix_len is_ascii_digit rest)
     else (if b == 45 then minus_front rest
     else (if is_quote b then quoted (text_end rest)
@@ -87,32 +81,25 @@ pub record Lexeme : Type 0 where
   pub at : ℕ
 
 -- the tokens that follow a first one, with it
-abbrev pub with_first : Lexeme → Result (List Lexeme) LexNo → Result (List Lexeme) LexNo
+abbrev pub with_first : Lexeme → Result (List Lexeme) Refusal → Result (List Lexeme) Refusal
 with_first x (Ok xs) = Ok (x ∷ xs)
 with_first x (Err e) = Err e
 
 -- the tokens of the rest of a text that begins at a place, of which the first `skip` bytes are passed over
-unfoldable pub lexed_from : ℕ → ℕ → List ℕ → Result (List Lexeme) LexNo
+unfoldable pub lexed_from : ℕ → ℕ → List ℕ → Result (List Lexeme) Refusal
 lexed_from skip at [] = Ok []
 lexed_from (suc skip) at (b ∷ rest) = lexed_from skip (at + 1) rest
 lexed_from zero at (b ∷ rest) = elim (front_of (b ∷ rest)) [
   | White ↦ lexed_from 0 (at + 1) rest
   | Taken kind n ↦ with_first (record { kind = kind; text = take n (b ∷ rest); at = at }) (lexed_from (n - 1) (at + 1) rest)
-  | Bad ↦ Err (BadChar at)
-  | Open ↦ Err (OpenText at)
+  | Bad ↦ Err (refusal bad_char at 0)
+  | Open ↦ Err (refusal open_text at 0)
 ]
 
 -- the tokens of a text, or the first refusal in it
-unfoldable pub lexed : List ℕ → Result (List Lexeme) LexNo
+unfoldable pub lexed : List ℕ → Result (List Lexeme) Refusal
 lexed text = lexed_from 0 0 text
 
 -- a token as a lexeme
 abbrev pub lexeme : Token → Lexeme
 lexeme t = record { kind = t.kind; text = t.text.now; at = t.at }
-
--- the answer is what the text has: its tokens, or its first refusal. Want of memory is tied to no cause
-abbrev pub Lexes : Result (List Token) LexNo → Result (List Lexeme) LexNo → Type 0
-Lexes (Ok ts) wanted = wanted ≡ Ok (map lexeme ts)
-Lexes (Err NoMemory) wanted = Unit {0}
-Lexes (Err (BadChar at)) wanted = wanted ≡ Err (BadChar at)
-Lexes (Err (OpenText at)) wanted = wanted ≡ Err (OpenText at)

@@ -1,3 +1,4 @@
+pub mod Codes
 pub mod Lexing
 pub mod Longest
 pub mod Slices

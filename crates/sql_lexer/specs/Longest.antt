@@ -2,6 +2,7 @@
 use Rattle.std.specs.Prelude.{◌≡◌, ◌≢◌, ◌⊎◌, ℕ, ◌+◌, ◌-◌, ◌<◌, ◌≤◌, true, false, List, [], ◌∷◌, ◌++◌, map, length, take, drop, slice_index, All, Result, Ok, Err}
 use Rattle.std.specs.List.{list_all}
 use Rattle.std.specs.Char.{is_ascii_digit}
+use Rattle.word_forms.specs.Words.{is_word}
 use Rattle.sql_lexer.specs.declared.token.TokenKind.{TokenKind}
 use Rattle.sql_lexer.specs.declared.token.TokenKind.TheVariants.{Word, Number, Text, Symbol}
 use Rattle.sql_lexer.specs.declared.token.Token.{Token}
@@ -9,12 +10,11 @@ use Rattle.sql_lexer.specs.declared.refusal.LexNo.{LexNo}
 use Rattle.sql_lexer.specs.declared.refusal.LexNo.TheVariants.{BadChar, OpenText, NoMemory}
 use Rattle.sql_lexer.specs.declared.fronts.Front.{Front}
 use Rattle.sql_lexer.specs.declared.fronts.Front.TheVariants.{White, Taken, Bad, Open}
-use Rattle.sql_lexer.specs.Lexing.{is_white, is_letter, is_word_byte, is_short_symbol, is_long_symbol, Lexeme, lexeme}
+use Rattle.sql_lexer.specs.Lexing.{is_white, is_short_symbol, is_long_symbol, Lexeme, lexeme}
 
 -- a letter or `_`, followed by letters, digits or `_`
 abbrev pub IsWord : List ℕ → Type 0
-IsWord [] = ⊥
-IsWord (b ∷ rest) = (is_letter b ≡ true) × (list_all is_word_byte rest ≡ true)
+IsWord text = is_word text ≡ true
 
 -- at least one digit
 abbrev pub AreDigits : List ℕ → Type 0

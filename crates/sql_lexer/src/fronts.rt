@@ -1,9 +1,11 @@
 ghost use Rattle.std.specs.Prelude.{◌≡◌, ◌≤◌, length, IfSome};
 ghost use Rattle.std.specs.List.{prefix_len};
 ghost use Rattle.std.specs.Char.{is_ascii_digit};
+ghost use Rattle.word_forms.specs.Words.{is_later};
 ghost use Rattle.sql_lexer.specs.Lexing as lexing;
 
 use crate::token::TokenKind;
+use word_forms::{is_first, is_later};
 
 /// What stands in front of the rest of a text.
 #[derive(Clone, Copy)]
@@ -18,24 +20,14 @@ pub enum Front {
     Open,
 }
 
+// Whether a byte is white space.
 fn is_white(byte: u8) -> bool
     ensures { result ≡ lexing.is_white byte }
 {
     matches!(byte, b' ' | b'\t' | b'\r' | b'\n')
 }
 
-fn is_letter(byte: u8) -> bool
-    ensures { result ≡ lexing.is_letter byte }
-{
-    byte.is_ascii_alphabetic() || byte == b'_'
-}
-
-fn is_word_byte(byte: u8) -> bool
-    ensures { result ≡ lexing.is_word_byte byte }
-{
-    byte.is_ascii_alphanumeric() || byte == b'_'
-}
-
+// Whether two bytes are one symbol.
 fn is_long_symbol(first: u8, second: u8) -> bool
     ensures { result ≡ lexing.is_long_symbol first second }
 {
@@ -46,6 +38,7 @@ fn is_long_symbol(first: u8, second: u8) -> bool
     }
 }
 
+// Whether a byte is a symbol alone.
 fn is_short_symbol(byte: u8) -> bool
     ensures { result ≡ lexing.is_short_symbol byte }
 {
@@ -55,15 +48,15 @@ fn is_short_symbol(byte: u8) -> bool
     )
 }
 
-/// How many bytes of a word stand in front.
+// How many bytes of a word stand in front.
 fn word_run(bytes: &[u8]) -> usize
-    ensures run { result ≡ prefix_len lexing.is_word_byte bytes.now }
+    ensures run { result ≡ prefix_len is_later bytes.now }
     ensures within { result ≤ length bytes.now }
 {
-    bytes.iter().take_while(|byte| is_word_byte(**byte)).count()
+    bytes.iter().take_while(|byte| is_later(**byte)).count()
 }
 
-/// How many digits stand in front.
+// How many digits stand in front.
 fn digit_run(bytes: &[u8]) -> usize
     ensures run { result ≡ prefix_len is_ascii_digit bytes.now }
     ensures within { result ≤ length bytes.now }
@@ -74,7 +67,7 @@ fn digit_run(bytes: &[u8]) -> usize
         .count()
 }
 
-/// How many bytes after the first quote a text takes, with the quote that ends it.
+// How many bytes after the first quote a text takes, with the quote that ends it.
 #[tactic(auto, using(crate::proofs::TextEnds::ends))]
 fn text_end(bytes: &[u8]) -> Option<usize>
     ensures end { result ≡ lexing.text_end bytes.now }
@@ -93,7 +86,7 @@ fn text_end(bytes: &[u8]) -> Option<usize>
     None
 }
 
-/// What stands in front where these bytes follow a `-`.
+// What stands in front where these bytes follow a `-`.
 fn minus_front(rest: &[u8]) -> Front
     ensures { result ≡ lexing.minus_front rest.now }
 {
@@ -106,7 +99,7 @@ fn minus_front(rest: &[u8]) -> Front
     }
 }
 
-/// What stands in front where these bytes follow a quote.
+// What stands in front where these bytes follow a quote.
 fn quote_front(rest: &[u8]) -> Front
     ensures { result ≡ lexing.quoted (lexing.text_end rest.now) }
 {
@@ -116,7 +109,7 @@ fn quote_front(rest: &[u8]) -> Front
     }
 }
 
-/// The symbol in front, if there is one: two bytes before one.
+// The symbol in front, if there is one: two bytes before one.
 fn symbol_front(bytes: &[u8]) -> Front
     ensures { result ≡ lexing.symbol_front bytes.now }
 {
@@ -138,10 +131,7 @@ pub fn front_of(bytes: &[u8]) -> Front
     match bytes {
         [] => Front::Bad,
         [first, ..] if is_white(*first) => Front::White,
-        [first, rest @ ..] if is_letter(*first) => Front::Taken(
-            TokenKind::Word,
-            1 + word_run(rest),
-        ),
+        [first, rest @ ..] if is_first(*first) => Front::Taken(TokenKind::Word, 1 + word_run(rest)),
         [first, rest @ ..] if first.is_ascii_digit() => Front::Taken(
             TokenKind::Number,
             1 + digit_run(rest),

@@ -2,6 +2,7 @@
 //! first lexical refusal. It stands on the plain types alone, and knows nothing of the grammar of queries.
 #![tactic(auto)]
 
+pub mod codes;
 mod fronts;
 mod lexer;
 mod refusal;

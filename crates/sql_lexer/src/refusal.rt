@@ -1,6 +1,9 @@
 ghost use Rattle.std.specs.Prelude.{◌≡◌};
+ghost use Rattle.sql_lexer.specs.Codes.{lexical_refusal};
 ghost use Rattle.sql_lexer.specs.declared.refusal.LexNo.TheVariants as refusal;
 
+use crate::codes::{BAD_CHAR, OPEN_TEXT};
+use mq_base::{Refusal, Refusing};
 use std::alloc::{AllocError, AllocFailed};
 use std::error::Error;
 use std::fmt;
@@ -33,6 +36,23 @@ impl fmt::Display for LexNo {
 }
 
 impl Error for LexNo {}
+
+impl Refusing for LexNo {
+    ghost told = { lexical_refusal };
+
+    fn refusal(&self) -> Option<Refusal> {
+        let (code, at) = match self {
+            LexNo::BadChar { at } => (BAD_CHAR, *at),
+            LexNo::OpenText { at } => (OPEN_TEXT, *at),
+            LexNo::NoMemory => return None,
+        };
+        Some(Refusal {
+            code,
+            at: u64::from(at),
+            item: 0,
+        })
+    }
+}
 
 impl From<AllocError> for LexNo {
     ghost from_gives = { λ _ e. e ≡ refusal.NoMemory };

@@ -5,7 +5,6 @@ pub mod SpellNumbers
 pub mod SpellTokens
 pub mod SpellParts
 pub mod SpellQuery
-pub mod PrintTests
 pub mod Examples
 pub mod WritableLaws
 pub mod LoopLaws

@@ -1,21 +1,21 @@
 -- The turns of a loop that reads phrases one behind the other: what was read so far, before what is still to be read.
-use Rattle.std.proofs.Common.{◌≡◌, ℕ, ◌<◌, Bool, true, false, List, [], ◌∷◌, ◌++◌, length, Option, refl, sym, ap, ◌∙◌, append_assoc}
-use Rattle.std.proofs.lemmas.List.{append-nil}
-use Rattle.sql_lexer.specs.Lexing.{Lexeme}
-use Rattle.sql_reader.specs.Readers.{Reading, Took, Stuck, next_is, give, and_then, bind, many}
+use Rattle.std.proofs.Common.{◌≡◌, ℕ, zero, suc, ◌-◌, Bool, true, false, List, [], ◌∷◌, ◌++◌, map, length, Option, refl, sym, ap, ◌∙◌, arith, append_assoc, length-drop}
+use Rattle.std.proofs.lemmas.List.{append-nil, length-map}
+use Rattle.sql_lexer.specs.declared.token.Token.{Token}
+use Rattle.sql_lexer.specs.Lexing.{Lexeme, lexeme}
+use Rattle.sql_reader.specs.Readers.{Reading, Took, Stuck, next_is, give, and_then, bind, many_within, many}
 use Rattle.sql_reader.specs.declared.stop.Stop.{Stop}
 use Rattle.sql_reader.specs.declared.stop.Stop.TheVariants.{Unexpected, NoMemory}
-use Rattle.sql_reader.specs.Answers.{Refuses}
-use Rattle.sql_reader.proofs.ReaderLaws.{IsReader, Starts, many-end, many-first, shorter}
+use Rattle.sql_reader.specs.inside.Answers.{Refuses, left}
 
 -- a reading of phrases, behind those before
 abbrev pub carry : {X : Type 0} → List X → Reading (List X) → Reading (List X)
 carry xs (Took ys rest) = Took (xs ++ ys) rest
 carry xs (Stuck place) = Stuck place
 
--- the whole reads as these values, and then as the phrases of what is left
-pub record Stands {X : Type 0} (whole : Reading (List X)) (test : Lexeme → Bool) (q : List Lexeme → Reading X) (xs : List X) (ts : List Lexeme) : Type 0 where
-  pub goes_on : whole ≡ carry xs (many test q ts)
+-- the whole reads as these values, and then as at most so many phrases of what is left
+pub record Stands {X : Type 0} (whole : Reading (List X)) (test : Lexeme → Bool) (q : List Lexeme → Reading X) (xs : List X) (turns : ℕ) (ts : List Lexeme) : Type 0 where
+  pub goes_on : whole ≡ carry xs (many_within turns test q ts)
 
 carry-first : {X : Type 0} (x : X) (r : Reading (List X)) → and_then (λ xs. give (x ∷ xs)) r ≡ carry (x ∷ []) r
 carry-first x (Took xs rest) = refl
@@ -25,40 +25,39 @@ carry-next : {X : Type 0} (xs : List X) (x : X) (r : Reading (List X)) → carry
 carry-next xs x (Took ys rest) = ap (λ zs. Took zs rest) (sym (append_assoc xs (x ∷ []) ys))
 carry-next xs x (Stuck place) = refl
 
--- at the start the first is read
-pub stands-start : {X : Type 0} (test : Lexeme → Bool) (p q : List Lexeme → Reading X) (ts : List Lexeme) (x : X) (rest : List Lexeme)
-    → p ts ≡ Took x rest → Stands (bind p (λ y. bind (many test q) (λ ys. give (y ∷ ys))) ts) test q (x ∷ []) rest
-stands-start test p q ts x rest is = record {
-  goes_on = ap (and_then (λ y. bind (many test q) (λ ys. give (y ∷ ys)))) is ∙ carry-first x (many test q rest);
-}
+-- at the start the first was read
+pub stands-start : {X : Type 0} (test : Lexeme → Bool) (q : List Lexeme → Reading X) (x : X) (tokens : List Token) (at : ℕ)
+    → Stands (bind (many test q) (λ xs. give (x ∷ xs)) (left tokens at)) test q (x ∷ []) (length tokens - at) (left tokens at)
+unfolding many
+stands-start test q x tokens at =
+    let turns : length (left tokens at) ≡ length tokens - at = omega (arith, length-drop at (map lexeme tokens), length-map tokens lexeme) in
+    record {
+      goes_on = carry-first x (many test q (left tokens at)) ∙ ap (λ n. carry (x ∷ []) (many_within n test q (left tokens at))) turns;
+    }
 
-pub stuck-start : {X : Type 0} (test : Lexeme → Bool) (p q : List Lexeme → Reading X) (ts : List Lexeme) (place : Option ℕ)
-    → p ts ≡ Stuck place → bind p (λ y. bind (many test q) (λ ys. give (y ∷ ys))) ts ≡ Stuck place
-stuck-start test p q ts place is = ap (and_then (λ y. bind (many test q) (λ ys. give (y ∷ ys)))) is
+-- at each turn one more is read
+read-first : {X : Type 0} (test : Lexeme → Bool) (q : List Lexeme → Reading X) (ts : List Lexeme) (n : ℕ) (r : Reading X) → next_is test ts ≡ true
+    → q ts ≡ r → many_within (suc n) test q ts ≡ and_then (λ y. bind (many_within n test q) (λ ys. give (y ∷ ys))) r
+read-first test q ts n r passes is = rw (passes, is) refl
 
-module _ {X : Type 0} {P : X → List Lexeme → Type 0} {test barred : Lexeme → Bool} {q : List Lexeme → Reading X} (law : IsReader P barred q) (starts : Starts P test) where
-  -- at each turn one more is read
-  read-first : (ts : List Lexeme) (r : Reading X) → next_is test ts ≡ true → q ts ≡ r
-      → many test q ts ≡ and_then (λ y. bind (many test q) (λ ys. give (y ∷ ys))) r
-  read-first ts r passes is = many-first P test barred q law starts ts passes ∙ ap (and_then (λ y. bind (many test q) (λ ys. give (y ∷ ys)))) is
-
-  pub stands-next : {whole : Reading (List X)} {xs : List X} {ts : List Lexeme} (x : X) (rest : List Lexeme) → Stands whole test q xs ts
-      → next_is test ts ≡ true → q ts ≡ Took x rest → Stands whole test q (xs ++ x ∷ []) rest
-  stands-next {whole} {xs} {ts} x rest stands passes is = record {
-    goes_on = stands.goes_on ∙ ap (carry xs) (read-first ts (Took x rest) passes is) ∙ carry-next xs x (many test q rest);
+module _ {X : Type 0} {test : Lexeme → Bool} {q : List Lexeme → Reading X} {whole : Reading (List X)} {xs : List X} {ts : List Lexeme} where
+  pub stands-next : (n : ℕ) (x : X) (rest : List Lexeme) → Stands whole test q xs (suc n) ts → next_is test ts ≡ true → q ts ≡ Took x rest
+      → Stands whole test q (xs ++ x ∷ []) n rest
+  stands-next n x rest stands passes is = record {
+    goes_on = stands.goes_on ∙ ap (carry xs) (read-first test q ts n (Took x rest) passes is) ∙ carry-next xs x (many_within n test q rest);
   }
 
-  pub stands-stuck : {whole : Reading (List X)} {xs : List X} {ts : List Lexeme} (place : Option ℕ) → Stands whole test q xs ts
-      → next_is test ts ≡ true → q ts ≡ Stuck place → whole ≡ Stuck place
-  stands-stuck {whole} {xs} {ts} place stands passes is = stands.goes_on ∙ ap (carry xs) (read-first ts (Stuck place) passes is)
+  pub stands-stuck : (n : ℕ) (place : Option ℕ) → Stands whole test q xs (suc n) ts → next_is test ts ≡ true → q ts ≡ Stuck place → whole ≡ Stuck place
+  stands-stuck n place stands passes is = stands.goes_on ∙ ap (carry xs) (read-first test q ts n (Stuck place) passes is)
 
-  -- and in the end all are read
-  pub stands-end : {whole : Reading (List X)} {xs : List X} {ts : List Lexeme} → Stands whole test q xs ts → next_is test ts ≡ false → whole ≡ Took xs ts
-  stands-end {whole} {xs} {ts} stands fails =
-      stands.goes_on ∙ ap (carry xs) (many-end P test barred q law starts ts fails) ∙ ap (λ ys. Took ys ts) (append-nil xs)
+  -- and in the end all are read: no turn is left, or no phrase begins
+  pub stands-none : Stands whole test q xs zero ts → whole ≡ Took xs ts
+  stands-none stands = stands.goes_on ∙ ap (λ ys. Took ys ts) (append-nil xs)
 
-  pub turn-shorter : (ts : List Lexeme) (x : X) (rest : List Lexeme) → q ts ≡ Took x rest → length rest < length ts
-  turn-shorter ts x rest is = shorter P test barred q law starts ts x rest is
+  pub stands-end : (n : ℕ) → Stands whole test q xs (suc n) ts → next_is test ts ≡ false → whole ≡ Took xs ts
+  stands-end n stands fails =
+      let ended : many_within (suc n) test q ts ≡ Took [] ts = rw fails refl in
+      stands.goes_on ∙ ap (carry xs) ended ∙ ap (λ ys. Took ys ts) (append-nil xs)
 
 -- a refusal that is passed on
 pub passed_on : {X Y : Type 0} (e : Stop) (r : Reading X) (whole : Reading Y) → Refuses e r

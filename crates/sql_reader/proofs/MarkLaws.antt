@@ -3,18 +3,17 @@ use Rattle.std.proofs.Common.{◌≡◌, ℕ, ◌==◌, Bool, true, false, ◌||
 use Rattle.std.specs.Prelude.{codes, if◌then◌else◌}
 use Rattle.std.specs.List.{list_all, list_any}
 use Rattle.std.proofs.lemmas.Bool.{eqb-true}
-use Rattle.word_forms.specs.declared.keyword.Keyword.{Keyword}
 use Rattle.word_forms.specs.declared.keyword.Keyword.TheVariants as keyword
 use Rattle.word_forms.specs.Keywords.{keyword_of, spelling}
 use Rattle.sql_lexer.specs.declared.token.TokenKind.TheVariants as kind
 use Rattle.sql_lexer.specs.Lexing.{Lexeme}
-use Rattle.sql_lexer.proofs.Runs.{both}
+use Rattle.base_laws.proofs.BoolLaws.{both}
+use Rattle.word_forms.proofs.KeywordLaws.{keyword_of-spelling}
 use Rattle.sql_reader.specs.declared.mark.Mark.{Mark}
 use Rattle.sql_reader.specs.declared.mark.Mark.TheVariants as mark
-use Rattle.sql_reader.specs.Marks.{mark_of, mark_number, is_mark, symbol_mark}
+use Rattle.sql_reader.specs.Marks.{mark_of, mark_number, is_mark, is_one_of, symbol_mark}
 use Rattle.sql_reader.specs.Phrases.{One}
-use Rattle.sql_reader.specs.Grammar.{marked, IsMark, op_marked, op_in, literal_marked, literal_in, function_marked, function_in, Function}
-use Rattle.sql_reader.specs.QueryReaders.{is_one_of}
+use Rattle.sql_reader.specs.Grammar.{marked, sign, op_marked, op_in, literal_marked, literal_in, function_marked, function_in, Function}
 use Rattle.sql_reader.proofs.ReaderLaws.{AreApart, Covers, Starts, Sample, one-starts}
 
 -- whether a number is that of one of the marks
@@ -79,7 +78,7 @@ marked-is k t x is = by_test (is_mark k t) is
     by_test true is = refl
     by_test false is = cc
 
-pub mark-starts : (k : Mark) → Starts (IsMark k) (is_one_of (k ∷ []))
+pub mark-starts : (k : Mark) → Starts (sign k).spells (is_one_of (k ∷ []))
 mark-starts k = one-starts (marked-is k)
 
 -- a token of each mark
@@ -101,25 +100,9 @@ sample mark.Le = record { kind = kind.Symbol; text = codes "<="; at = 0 }
 sample mark.Gt = record { kind = kind.Symbol; text = codes ">"; at = 0 }
 sample mark.Ge = record { kind = kind.Symbol; text = codes ">="; at = 0 }
 
-spelling-mark : (k : Keyword) → keyword_of (spelling k) ≡ Some k
-unfolding keyword_of
-spelling-mark keyword.Select = refl
-spelling-mark keyword.From = refl
-spelling-mark keyword.Join = refl
-spelling-mark keyword.On = refl
-spelling-mark keyword.Where = refl
-spelling-mark keyword.And = refl
-spelling-mark keyword.Group = refl
-spelling-mark keyword.By = refl
-spelling-mark keyword.Having = refl
-spelling-mark keyword.Sum = refl
-spelling-mark keyword.Min = refl
-spelling-mark keyword.Max = refl
-spelling-mark keyword.Count = refl
-
 sample-mark : (k : Mark) → mark_of (sample k) ≡ k
 unfolding keyword_of symbol_mark
-sample-mark (mark.Keyword k) = rw (spelling-mark k) refl
+sample-mark (mark.Keyword k) = rw (keyword_of-spelling k) refl
 sample-mark mark.Name = refl
 sample-mark mark.Number = refl
 sample-mark mark.Text = refl
@@ -139,7 +122,7 @@ sample-mark mark.Ge = refl
 same_number : (n : ℕ) → (n == n) ≡ true
 same_number n = eq-eqb n n refl
 
-pub some_mark : (k : Mark) → Sample (IsMark k)
+pub some_mark : (k : Mark) → Sample (sign k).spells
 some_mark k =
     let is : is_mark k (sample k) ≡ true = ap (λ j. mark_number j == mark_number k) (sample-mark k) ∙ same_number (mark_number k) in
     record { value = sample k; tokens = sample k ∷ []; phrase = (sample k, refl, rw is refl) }

@@ -13,7 +13,7 @@ use Rattle.sql_reader.specs.declared.raw.RawQuery.{RawQuery}
 use Rattle.sql_reader.specs.Syntax.{column_of, condition_of, item_of, source_of, having_of, query_of}
 use Rattle.sql_reader.specs.Spelling.{separated, column_text, condition_text, item_text, joined_text, source_text, more_sources_text, sources_text, where_text, group_text, having_text, havings_text, query_text}
 use Rattle.sql_reader.specs.Writable.{IsWritable}
-use Rattle.sql_reader.specs.PrintParts.{followed, clause_text, IsConditionInRange, IsSourceInRange, IsHavingInRange, IsQueryInRange}
+use Rattle.sql_reader.specs.inside.PrintParts.{followed, clause_text, IsConditionInRange, IsSourceInRange, IsHavingInRange, IsQueryInRange}
 
 followed_push : (separator : List ℕ) (xs : List (List ℕ)) (x : List ℕ)
     → followed separator (xs ++ x ∷ []) ≡ followed separator xs ++ separator ++ x

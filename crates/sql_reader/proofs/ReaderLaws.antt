@@ -5,16 +5,13 @@ use Rattle.std.specs.Prelude.{if◌then◌else◌}
 use Rattle.std.proofs.lemmas.List.{append-nil}
 use Rattle.sql_lexer.specs.Lexing.{Lexeme}
 use Rattle.sql_reader.specs.Phrases.{Is, One, Then, Or, Many}
+use Rattle.sql_reader.specs.Law.{place_in}
 use Rattle.sql_reader.specs.Readers.{Reading, Took, Stuck, next_is, give, taken, one, and_then, bind, alt, many_within, many}
 
--- the first token, and the place of it
+-- the first token
 abbrev pub first_of : List Lexeme → Option Lexeme
 first_of [] = None
 first_of (t ∷ ts) = Some t
-
-abbrev pub place_in : List Lexeme → Option ℕ
-place_in [] = None
-place_in (t ∷ ts) = Some t.at
 
 -- the reader took a value: a phrase for it stands in front, and it is read alike before any rest with the same first token
 pub record Takes {X : Type 0} (P : X → List Lexeme → Type 0) (p : List Lexeme → Reading X) (ts : List Lexeme) (x : X) (rest : List Lexeme) : Type 0 where
@@ -99,30 +96,18 @@ phrase_at P p ts (Stuck place) is = record { value = is.value; tokens = is.front
 pub sample_of : {X : Type 0} {P : X → List Lexeme → Type 0} {more : Lexeme → Bool} {p : List Lexeme → Reading X} → IsReader P more p → Sample P
 sample_of {X} {P} {more} {p} law = phrase_at P p [] (p []) (law.at [])
 
--- the same law for an equal reader, a wider relation, and more tokens
-along : {X : Type 0} (P : X → List Lexeme → Type 0) (p q : List Lexeme → Reading X) → ((ts : List Lexeme) → p ts ≡ q ts)
-    → (ts : List Lexeme) (r : Reading X) → IsAt P p ts r → IsAt P q ts r
-along P p q same ts (Took x rest) is = record {
+-- the same for a wider relation, and a reader that agrees before any rest with the same first token
+moved : {X : Type 0} (P Q : X → List Lexeme → Type 0) (p q : List Lexeme → Reading X) (ts : List Lexeme)
+    → ((x : X) (us : List Lexeme) → P x us → Q x us)
+    → ((front rest other : List Lexeme) → ts ≡ front ++ rest → first_of other ≡ first_of rest → q (front ++ other) ≡ p (front ++ other))
+    → (r : Reading X) → IsAt P p ts r → IsAt Q q ts r
+moved P Q p q ts to same (Took x rest) is = record {
   front = is.front;
   joined = is.joined;
-  phrase = is.phrase;
-  again = λ other first. sym (same (is.front ++ other)) ∙ is.again other first;
+  phrase = to x is.front is.phrase;
+  again = λ other first. same is.front rest other is.joined first ∙ is.again other first;
 }
-along P p q same ts (Stuck place) is = record {
-  front = is.front;
-  rest = is.rest;
-  joined = is.joined;
-  spot = is.spot;
-  value = is.value;
-  behind = is.behind;
-  phrase = is.phrase;
-  again = λ other first. sym (same (is.front ++ other)) ∙ is.again other first;
-}
-
-wider : {X : Type 0} (P Q : X → List Lexeme → Type 0) (p : List Lexeme → Reading X) → ((x : X) (ts : List Lexeme) → P x ts → Q x ts)
-    → (ts : List Lexeme) (r : Reading X) → IsAt P p ts r → IsAt Q p ts r
-wider P Q p to ts (Took x rest) is = record { front = is.front; joined = is.joined; phrase = to x is.front is.phrase; again = is.again }
-wider P Q p to ts (Stuck place) is = record {
+moved P Q p q ts to same (Stuck place) is = record {
   front = is.front;
   rest = is.rest;
   joined = is.joined;
@@ -130,21 +115,15 @@ wider P Q p to ts (Stuck place) is = record {
   value = is.value;
   behind = is.behind;
   phrase = to is.value (is.front ++ is.behind) is.phrase;
-  again = is.again;
+  again = λ other first. same is.front is.rest other is.joined first ∙ is.again other first;
 }
 
+-- the same law for more tokens
 pub with_more : {X : Type 0} {P : X → List Lexeme → Type 0} {more : Lexeme → Bool} {p : List Lexeme → Reading X}
     → IsReader P more p → (wide : Lexeme → Bool) → Covers wide more → IsReader P wide p
 with_more {X} {P} {more} {p} law wide covers = record {
   at = law.at;
   complete = λ x front rest phrase ends. law.complete x front rest phrase (next_is-covers wide more covers rest ends);
-}
-
-pub same-law : {X : Type 0} {P Q : X → List Lexeme → Type 0} {more : Lexeme → Bool} {p : List Lexeme → Reading X}
-    → ((x : X) (ts : List Lexeme) → P x ts → Q x ts) → ((x : X) (ts : List Lexeme) → Q x ts → P x ts) → IsReader P more p → IsReader Q more p
-same-law {X} {P} {Q} {more} {p} to from law = record {
-  at = λ ts. wider P Q p to ts (p ts) (law.at ts);
-  complete = λ x front rest phrase ends. law.complete x front rest (from x front phrase) ends;
 }
 
 -- no token
@@ -295,53 +274,17 @@ module _ {X : Type 0} (P Q : X → List Lexeme → Type 0) (test : Lexeme → Bo
   decides ts front rest other joined first =
       next_is-same test (front ++ other) ts (first_of-append front other rest first ∙ ap first_of (sym joined))
 
-  first-at : (ts : List Lexeme) → next_is test ts ≡ true → (r : Reading X) → IsAt P p ts r → IsAt (Or P Q) (alt test p q) ts r
-  first-at ts passes (Took x rest) is = record {
-    front = is.front;
-    joined = is.joined;
-    phrase = inl is.phrase;
-    again = λ other first.
-        alt-first test p q (is.front ++ other) (decides ts is.front rest other is.joined first ∙ passes) ∙ is.again other first;
-  }
-  first-at ts passes (Stuck place) is = record {
-    front = is.front;
-    rest = is.rest;
-    joined = is.joined;
-    spot = is.spot;
-    value = is.value;
-    behind = is.behind;
-    phrase = inl is.phrase;
-    again = λ other first.
-        alt-first test p q (is.front ++ other) (decides ts is.front is.rest other is.joined first ∙ passes) ∙ is.again other first;
-  }
-
-  second-at : (ts : List Lexeme) → next_is test ts ≡ false → (r : Reading X) → IsAt Q q ts r → IsAt (Or P Q) (alt test p q) ts r
-  second-at ts fails (Took x rest) is = record {
-    front = is.front;
-    joined = is.joined;
-    phrase = inr is.phrase;
-    again = λ other first.
-        alt-second test p q (is.front ++ other) (decides ts is.front rest other is.joined first ∙ fails) ∙ is.again other first;
-  }
-  second-at ts fails (Stuck place) is = record {
-    front = is.front;
-    rest = is.rest;
-    joined = is.joined;
-    spot = is.spot;
-    value = is.value;
-    behind = is.behind;
-    phrase = inr is.phrase;
-    again = λ other first.
-        alt-second test p q (is.front ++ other) (decides ts is.front is.rest other is.joined first ∙ fails) ∙ is.again other first;
-  }
-
   alt-at : (ts : List Lexeme) → (next_is test ts ≡ true → IsAt P p ts (p ts)) → (next_is test ts ≡ false → IsAt Q q ts (q ts))
       → IsAt (Or P Q) (alt test p q) ts (alt test p q ts)
   alt-at ts passes fails = by_test (next_is test ts) refl
     where
       by_test : (b : Bool) → next_is test ts ≡ b → IsAt (Or P Q) (alt test p q) ts (if b then p ts else q ts)
-      by_test true is = first-at ts is (p ts) (passes is)
-      by_test false is = second-at ts is (q ts) (fails is)
+      by_test true is =
+          moved P (Or P Q) p (alt test p q) ts (λ x us phrase. inl phrase)
+          (λ front rest other joined first. alt-first test p q (front ++ other) (decides ts front rest other joined first ∙ is)) (p ts) (passes is)
+      by_test false is =
+          moved Q (Or P Q) q (alt test p q) ts (λ x us phrase. inr phrase)
+          (λ front rest other joined first. alt-second test p q (front ++ other) (decides ts front rest other joined first ∙ is)) (q ts) (fails is)
 
   alt-complete : (x : X) (front rest : List Lexeme) → Or P Q x front → (P x front → next_is test (front ++ rest) ≡ true)
       → (Q x front → next_is test (front ++ rest) ≡ false) → (P x front → p (front ++ rest) ≡ Took x rest)
@@ -359,14 +302,12 @@ alt-law {X} {P} {Q} {test} {more} {p} {q} first second starts follows = record {
       (λ here. second.complete x front rest here ends);
 }
 
--- any number of phrases
-module _ {X : Type 0} (P : X → List Lexeme → Type 0) (test barred : Lexeme → Bool) (p : List Lexeme → Reading X) (law : IsReader P barred p) (starts : Starts P test) where
-  -- a phrase takes a token
-  pub shorter : (ts : List Lexeme) (x : X) (rest : List Lexeme) → p ts ≡ Took x rest → length rest < length ts
-  shorter ts x rest is =
-      let took : Takes P p ts x rest = subst (IsAt P p ts) is (law.at ts) in
-      omega (arith, next_is-some test took.front (starts.begins x took.front took.phrase), ap length took.joined, length-append took.front rest)
+-- what is read takes at least one token
+abbrev Shortens : {X : Type 0} → (List Lexeme → Reading X) → Type 0
+Shortens {X} p = (ts : List Lexeme) (x : X) (rest : List Lexeme) → p ts ≡ Took x rest → length rest < length ts
 
+-- any number of phrases, each of which takes a token
+module _ {X : Type 0} (test : Lexeme → Bool) (p : List Lexeme → Reading X) (shortens : Shortens p) where
   -- one turn, with a reader for what is left
   abbrev turn : (List Lexeme → Reading (List X)) → List Lexeme → Reading (List X)
   turn left = alt test (bind p (λ x. bind left (λ xs. give (x ∷ xs)))) (give [])
@@ -378,7 +319,7 @@ module _ {X : Type 0} (P : X → List Lexeme → Type 0) (test barred : Lexeme �
     where
       by_reading : (r : Reading X) → p ts ≡ r
           → and_then (λ x. bind f (λ xs. give (x ∷ xs))) r ≡ and_then (λ x. bind g (λ xs. give (x ∷ xs))) r
-      by_reading (Took x rest) is = ap (and_then (λ xs. give (x ∷ xs))) (same rest (shorter ts x rest is))
+      by_reading (Took x rest) is = ap (and_then (λ xs. give (x ∷ xs))) (same rest (shortens ts x rest is))
       by_reading (Stuck place) is = refl
 
       by_test : (b : Bool) → (if b then bind p (λ x. bind f (λ xs. give (x ∷ xs))) ts else give [] ts)
@@ -397,13 +338,23 @@ module _ {X : Type 0} (P : X → List Lexeme → Type 0) (test barred : Lexeme �
       turn-same (many_within m test p) (many_within n test p) ts (λ rest less. enough m n rest (omega arith) (omega arith))
 
   -- as many as there are: a turn, and as many as there are behind it
-  pub many-turn : (ts : List Lexeme)
+  many-turn : (ts : List Lexeme)
       → many test p ts ≡ alt test (bind p (λ x. bind (many test p) (λ xs. give (x ∷ xs)))) (give []) ts
   unfolding many
   many-turn [] = refl
   many-turn (t ∷ ts) =
       turn-same (many_within (length ts) test p) (λ us. many_within (length us) test p us) (t ∷ ts)
       (λ rest less. enough (length ts) (length rest) rest (omega arith) (omega arith))
+
+module _ {X : Type 0} (P : X → List Lexeme → Type 0) (test barred : Lexeme → Bool) (p : List Lexeme → Reading X) (law : IsReader P barred p) (starts : Starts P test) where
+  -- a phrase takes a token
+  shorter : Shortens p
+  shorter ts x rest is =
+      let took : Takes P p ts x rest = subst (IsAt P p ts) is (law.at ts) in
+      omega (arith, next_is-some test took.front (starts.begins x took.front took.phrase), ap length took.joined, length-append took.front rest)
+
+  abbrev one_turn : List Lexeme → Reading (List X)
+  one_turn = turn test p shorter (many test p)
 
   -- a turn of phrases is phrases
   abbrev IsMore : List X → List Lexeme → Type 0
@@ -435,14 +386,14 @@ module _ {X : Type 0} (P : X → List Lexeme → Type 0) (test barred : Lexeme �
   turn-at : (ts : List Lexeme) → ((rest : List Lexeme) → length rest < length ts → IsAt (Many P) (many test p) rest (many test p rest))
       → IsAt (Many P) (many test p) ts (many test p ts)
   turn-at ts later =
-      subst (IsAt (Many P) (many test p) ts) (sym (many-turn ts))
-      (along (Many P) (turn (many test p)) (many test p) (λ us. sym (many-turn us)) ts (turn (many test p) ts)
-      (wider (Or IsMore (Is [])) (Many P) (turn (many test p)) phrases ts (turn (many test p) ts)
+      subst (IsAt (Many P) (many test p) ts) (sym (many-turn test p shorter ts))
+      (moved (Or IsMore (Is [])) (Many P) one_turn (many test p) ts phrases
+      (λ front rest other joined first. many-turn test p shorter (front ++ other)) (one_turn ts)
       (alt-at IsMore (Is []) test (bind p (λ x. bind (many test p) (λ xs. give (x ∷ xs)))) (give []) ts
       (λ passes. bind-at P (λ x. Then (Many P) (λ xs. Is (x ∷ xs))) p (λ x. bind (many test p) (λ xs. give (x ∷ xs))) one_more ts (p ts) refl (law.at ts)
       (λ x rest is. bind-at (Many P) (λ xs. Is (x ∷ xs)) (many test p) (λ xs. give (x ∷ xs)) (none_more x) rest (many test p rest) refl
       (later rest (shorter ts x rest is)) (λ xs left was. give-at (x ∷ xs) left)))
-      (λ fails. give-at [] ts))))
+      (λ fails. give-at [] ts)))
 
   many-at : (n : ℕ) (ts : List Lexeme) → length ts ≤ n → IsAt (Many P) (many test p) ts (many test p ts)
   many-at zero ts within = turn-at ts (λ rest less. absurd (omega arith))
@@ -460,11 +411,11 @@ module _ {X : Type 0} (P : X → List Lexeme → Type 0) (test barred : Lexeme �
   many-complete : AreApart test barred → (xs : List X) (front rest : List Lexeme) → Many P xs front → next_is test rest ≡ false
       → next_is barred rest ≡ false → many test p (front ++ rest) ≡ Took xs rest
   many-complete apart [] front rest none no_turn ends =
-      rw (none, many-turn rest) (alt-second test (bind p (λ x. bind (many test p) (λ xs. give (x ∷ xs)))) (give []) rest no_turn)
+      rw (none, many-turn test p shorter rest) (alt-second test (bind p (λ x. bind (many test p) (λ xs. give (x ∷ xs)))) (give []) rest no_turn)
   many-complete apart (x ∷ xs) front rest some no_turn ends =
       let begins : next_is test some.front ≡ true = starts.begins x some.front some.first in
       rw (some.joined, append_assoc some.front some.rest rest)
-      (many-turn (some.front ++ (some.rest ++ rest))
+      (many-turn test p shorter (some.front ++ (some.rest ++ rest))
       ∙ alt-first test (bind p (λ x. bind (many test p) (λ xs. give (x ∷ xs)))) (give []) (some.front ++ (some.rest ++ rest))
       (next_is-append test some.front (some.rest ++ rest) begins)
       ∙ ap (and_then (λ y. bind (many test p) (λ ys. give (y ∷ ys))))
@@ -478,14 +429,6 @@ module _ {X : Type 0} (P : X → List Lexeme → Type 0) (test barred : Lexeme �
         many-complete apart xs front rest some (next_is-covers more test covers_test rest ends)
         (next_is-covers more barred covers_barred rest ends);
   }
-
-  -- the turns of a loop: what was read so far stands before what is left
-  pub many-end : (ts : List Lexeme) → next_is test ts ≡ false → many test p ts ≡ Took [] ts
-  many-end ts fails = many-turn ts ∙ alt-second test (bind p (λ x. bind (many test p) (λ xs. give (x ∷ xs)))) (give []) ts fails
-
-  pub many-first : (ts : List Lexeme) → next_is test ts ≡ true
-      → many test p ts ≡ and_then (λ x. bind (many test p) (λ xs. give (x ∷ xs))) (p ts)
-  many-first ts passes = many-turn ts ∙ alt-first test (bind p (λ x. bind (many test p) (λ xs. give (x ∷ xs)))) (give []) ts passes
 
 -- what a phrase begins with
 pub one-starts : {X : Type 0} {take : Lexeme → Option X} {test : Lexeme → Bool} → ((t : Lexeme) (x : X) → take t ≡ Some x → test t ≡ true)

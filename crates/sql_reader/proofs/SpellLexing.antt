@@ -3,9 +3,10 @@ use Rattle.std.proofs.Common.{◌≡◌, ℕ, ◌+◌, ◌<◌, ◌==◌, ◌||�
 use Rattle.std.specs.Char.{is_ascii_digit}
 use Rattle.std.proofs.lemmas.Bool.Decides.{nat_tests}
 use Rattle.sql_lexer.specs.declared.token.TokenKind.{TokenKind}
-use Rattle.sql_lexer.specs.declared.refusal.LexNo.{LexNo}
+use Rattle.mq_base.specs.declared.refusal.Refusal.{Refusal}
 use Rattle.sql_lexer.specs.declared.fronts.Front.TheVariants.{White, Taken}
-use Rattle.sql_lexer.specs.Lexing.{is_word_byte, is_quote, front_of, Lexeme, lexed_from, with_first}
+use Rattle.word_forms.specs.Words.{is_later}
+use Rattle.sql_lexer.specs.Lexing.{is_quote, front_of, Lexeme, lexed_from, with_first}
 use Rattle.sql_lexer.proofs.Steps.{lexed_from-white}
 use Rattle.sql_lexer.proofs.Turns.{behind}
 use Rattle.sql_lexer.proofs.TokenFronts.{Stops, lexed_from-alone}
@@ -23,7 +24,7 @@ abbrev pub Breaks : List ℕ → Type 0
 Breaks [] = Unit {0}
 Breaks (b ∷ rest) = is_break b ≡ true
 
-break_no_word : (b : ℕ) → is_break b ≡ true → is_word_byte b ≡ false
+break_no_word : (b : ℕ) → is_break b ≡ true → is_later b ≡ false
 break_no_word b breaks = grind (arith, nat_tests)
 
 break_no_digit : (b : ℕ) → is_break b ≡ true → is_ascii_digit b ≡ false
@@ -32,7 +33,7 @@ break_no_digit b breaks = grind (arith, nat_tests)
 break_no_quote : (b : ℕ) → is_break b ≡ true → is_quote b ≡ false
 break_no_quote b breaks = grind (arith, nat_tests)
 
-pub breaks_words : (more : List ℕ) → Breaks more → Stops is_word_byte more
+pub breaks_words : (more : List ℕ) → Breaks more → Stops is_later more
 breaks_words [] breaks = tt
 breaks_words (b ∷ rest) breaks = break_no_word b breaks
 
@@ -48,15 +49,15 @@ breaks_texts (b ∷ rest) breaks = break_no_quote b breaks
 pub record Lexes (E : List ℕ → Type 0) (at : ℕ) (text : List ℕ) (tokens : List Lexeme) : Type 0 where
   pub lexes : (more : List ℕ) → E more → lexed_from 0 at (text ++ more) ≡ behind tokens (lexed_from 0 (at + length text) more)
 
-behind-nothing : (r : Result (List Lexeme) LexNo) → behind [] r ≡ r
+behind-nothing : (r : Result (List Lexeme) Refusal) → behind [] r ≡ r
 behind-nothing (Ok xs) = refl
 behind-nothing (Err e) = refl
 
-behind-one : (x : Lexeme) (r : Result (List Lexeme) LexNo) → with_first x r ≡ behind (x ∷ []) r
+behind-one : (x : Lexeme) (r : Result (List Lexeme) Refusal) → with_first x r ≡ behind (x ∷ []) r
 behind-one x (Ok xs) = refl
 behind-one x (Err e) = refl
 
-behind-behind : (xs ys : List Lexeme) (r : Result (List Lexeme) LexNo) → behind xs (behind ys r) ≡ behind (xs ++ ys) r
+behind-behind : (xs ys : List Lexeme) (r : Result (List Lexeme) Refusal) → behind xs (behind ys r) ≡ behind (xs ++ ys) r
 behind-behind xs ys (Ok zs) = ap (λ (ts : List Lexeme). Ok ts) (sym (append_assoc xs ys zs))
 behind-behind xs ys (Err e) = refl
 

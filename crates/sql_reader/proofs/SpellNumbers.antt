@@ -13,7 +13,8 @@ use Rattle.std.proofs.lemmas.Str.Parse.{IsNumeralModel, numerals_by_value, tells
 use Rattle.word_forms.specs.Integers.{minus, natural_of, int_of, fits_64_bits, within_64_bits, integer_of}
 use Rattle.word_forms.proofs.IntegerLaws.{natural_of-digits}
 use Rattle.sql_lexer.specs.Longest.{AreDigits, IsNumber}
-use Rattle.sql_lexer.proofs.Runs.{both, chosen_first, chosen_second}
+use Rattle.base_laws.proofs.BoolLaws.{both}
+use Rattle.sql_lexer.proofs.Runs.{chosen_first, chosen_second}
 
 own : IsNumeralModel (λ ds. all_ascii_digits ds ≡ true) (digits_value 10)
 own = numerals_by_value (λ ds. all_ascii_digits ds ≡ true) tells_all_ascii_digits

@@ -7,13 +7,14 @@ use Rattle.mq_base.specs.declared.query.CmpOp.{CmpOp}
 use Rattle.sql_lexer.specs.Lexing.{Lexeme}
 use Rattle.sql_reader.specs.declared.mark.Mark.{Mark}
 use Rattle.sql_reader.specs.declared.mark.Mark.TheVariants as mark
-use Rattle.sql_reader.specs.Phrases.{Then}
 use Rattle.sql_reader.specs.Syntax.{Column, Literal, Side, Col, Lit, Condition, Item, Plain, Aggregate, Count, Source, Having}
-use Rattle.sql_reader.specs.Grammar.{IsMark, Function, Listed, bare, qualified, IsColumn, IsSide, condition, IsCondition, AreConditions, IsAggregate, IsItem, source, IsFirstSource, IsSource, having, IsHaving}
+use Rattle.sql_reader.specs.Rules.{Rule}
+use Rattle.sql_reader.specs.Grammar as grammar
+use Rattle.sql_reader.specs.Grammar.{sign, Function, listed, bare, qualified, make_condition, make_source, make_having}
 use Rattle.sql_reader.specs.Writable.{IsName, IsNamed, IsWritableSide, IsWritableCondition, IsWritableItem, IsWritableSource, IsAnAggregate, IsWritableHaving}
 use Rattle.sql_reader.specs.Spelling.{separated, op_text, function_text, qualifier_text, column_text, literal_text, side_text, condition_text, conditions_text, item_text, joined_text, source_text, having_text}
 use Rattle.sql_reader.specs.Placeless.{placeless_column, placeless_side, placeless_condition, placeless_item, placeless_source, placeless_having}
-use Rattle.sql_reader.specs.PrintParts.{followed, IsSideInRange, IsConditionInRange, IsSourceInRange, IsHavingInRange}
+use Rattle.sql_reader.specs.inside.PrintParts.{followed, IsSideInRange, IsConditionInRange, IsSourceInRange, IsHavingInRange}
 use Rattle.sql_reader.proofs.PrintLaws.{separated_cons}
 use Rattle.sql_reader.proofs.SpellLexing.{Any, Breaks}
 use Rattle.sql_reader.proofs.SpellPhrases.{Spells, spells_as, spells_none, spells_left, spells_right, spells_then, spells_end, spells_last, ends_breaking, joined, joined-breaks, all_head, all_tail, spells_many}
@@ -21,7 +22,8 @@ use Rattle.sql_reader.proofs.SpellTokens.{Untold, spells_name, spells_keyword, s
 
 -- a column
 column_by : (table : Option (List ℕ)) (name : List ℕ) (place : ℕ) → IfSome table IsName → IsName name → (at : ℕ)
-    → Spells IsColumn (λ y. placeless_column y ≡ record { table = table; name = name; at = 0 }) Breaks at (qualifier_text table ++ name)
+    → Spells grammar.column.spells (λ y. placeless_column y ≡ record { table = table; name = name; at = 0 }) Breaks at (qualifier_text table ++ name)
+unfolding grammar.column
 column_by None name place none named at =
     spells_end name (spells_name name named at)
     (λ x is. spells_right (spells_none Breaks (at + length name) (bare x) (ap (λ t. record { table = None; name = t; at = 0 }) is)))
@@ -39,12 +41,13 @@ column_by (Some table) name place qualifier named at =
         ap (λ t. record { table = Some t; name = y.text; at = 0 }) is ∙ ap (λ t. record { table = Some table; name = t; at = 0 }) is_name
 
 pub spells_column : (c : Column) → IsNamed c → (at : ℕ)
-    → Spells IsColumn (λ y. placeless_column y ≡ placeless_column c) Breaks at (column_text c)
+    → Spells grammar.column.spells (λ y. placeless_column y ≡ placeless_column c) Breaks at (column_text c)
 spells_column c named at = column_by c.table c.name c.at named.table named.name at
 
 -- the right side of a comparison
 spells_side : (s : Side) → IsWritableSide s → IsSideInRange s → (at : ℕ)
-    → Spells IsSide (λ y. placeless_side y ≡ placeless_side s) Breaks at (side_text s)
+    → Spells grammar.side.spells (λ y. placeless_side y ≡ placeless_side s) Breaks at (side_text s)
+unfolding grammar.side
 spells_side (Col c) named fits at =
     spells_left (spells_last (λ d. Col d) (column_text c) (spells_column c named at) (λ d is. ap (λ e. Col e) is))
 spells_side (Lit l) paired fits at =
@@ -59,14 +62,15 @@ spaced : (x o y : List ℕ) → x ++ codes " " ++ o ++ codes " " ++ y ≡ x ++ (
 spaced x o y = simp append_assoc
 
 same_condition : (c : Condition) (left : Column) (op : CmpOp) (right : Side) → placeless_column left ≡ placeless_column c.left → op ≡ c.op
-    → placeless_side right ≡ placeless_side c.right → placeless_condition (condition left op right) ≡ placeless_condition c
+    → placeless_side right ≡ placeless_side c.right → placeless_condition (make_condition left op right) ≡ placeless_condition c
 same_condition c left op right is_left is_op is_right =
     ap (λ (x : Column). record { left = x; op = op; right = placeless_side right }) is_left
     ∙ ap (λ (o : CmpOp). record { left = placeless_column c.left; op = o; right = placeless_side right }) is_op
     ∙ ap (λ (s : Side). record { left = placeless_column c.left; op = c.op; right = s }) is_right
 
 spells_condition : (c : Condition) → GoodCondition c → (at : ℕ)
-    → Spells IsCondition (λ y. placeless_condition y ≡ placeless_condition c) Breaks at (condition_text c)
+    → Spells grammar.condition.spells (λ y. placeless_condition y ≡ placeless_condition c) Breaks at (condition_text c)
+unfolding grammar.condition
 spells_condition c good at =
     let left : List ℕ = column_text c.left in
     let op : List ℕ = codes " " ++ (op_text c.op ++ codes " ") in
@@ -74,7 +78,7 @@ spells_condition c good at =
     spells_as (left ++ (op ++ right)) (condition_text c) (sym (spaced left (op_text c.op) right))
     (spells_then left (op ++ right) (spells_column c.left good.writable.left at)
     (λ x is_left. spells_then op right (spells_op c.op (at + length left))
-    (λ o is_op. spells_last (condition x o) right (spells_side c.right good.writable.right good.in_range.right (at + length left + length op))
+    (λ o is_op. spells_last (make_condition x o) right (spells_side c.right good.writable.right good.in_range.right (at + length left + length op))
     (λ y is_right. same_condition c x o y is_left is_op is_right))
     (λ more ends. tt))
     (λ more ends. refl))
@@ -85,12 +89,12 @@ followed-joined : {X : Type 0} (separator : List ℕ) (text : X → List ℕ) (x
 followed-joined separator text [] = refl
 followed-joined separator text (x ∷ xs) = ap (λ t. separator ++ text x ++ t) (followed-joined separator text xs)
 
-pub spells_listed : {X : Type 0} (k : Mark) (P : X → List Lexeme → Type 0) (forget : X → X) (text : X → List ℕ) (Good : X → Type 0)
-    (separator : List ℕ) → ((at : ℕ) → Spells (IsMark k) Untold Any at separator) → ((more : List ℕ) → Breaks (separator ++ more))
-    → ((x : X) → Good x → (at : ℕ) → Spells P (λ y. forget y ≡ forget x) Breaks at (text x))
+pub spells_listed : {X : Type 0} (k : Mark) (p : Rule X) (forget : X → X) (text : X → List ℕ) (Good : X → Type 0)
+    (separator : List ℕ) → ((at : ℕ) → Spells (sign k).spells Untold Any at separator) → ((more : List ℕ) → Breaks (separator ++ more))
+    → ((x : X) → Good x → (at : ℕ) → Spells p.spells (λ y. forget y ≡ forget x) Breaks at (text x))
     → (x : X) (xs : List X) → All Good (x ∷ xs) → (at : ℕ)
-    → Spells (Listed k P) (λ ys. map forget ys ≡ map forget (x ∷ xs)) Breaks at (separated separator (map text (x ∷ xs)))
-spells_listed {X} k P forget text Good separator mark breaks each x xs good at =
+    → Spells (listed k p).spells (λ ys. map forget ys ≡ map forget (x ∷ xs)) Breaks at (separated separator (map text (x ∷ xs)))
+spells_listed {X} k p forget text Good separator mark breaks each x xs good at =
     let behind : List ℕ = joined (λ y. separator ++ text y) xs in
     spells_as (text x ++ behind) (separated separator (map text (x ∷ xs)))
     (ap (λ t. text x ++ t) (followed-joined separator text xs) ∙ sym (separated_cons separator (text x) (map text xs)))
@@ -103,7 +107,7 @@ spells_listed {X} k P forget text Good separator mark breaks each x xs good at =
     behind_breaks : (y : X) (more : List ℕ) → Breaks (separator ++ text y ++ more)
     behind_breaks y more = rw (append_assoc separator (text y) more) (breaks (text y ++ more))
 
-    behind_each : (y : X) → Good y → (at : ℕ) → Spells (Then (IsMark k) (λ _. P)) (λ z. forget z ≡ forget y) Breaks at (separator ++ text y)
+    behind_each : (y : X) → Good y → (at : ℕ) → Spells (grammar.behind k p).spells (λ z. forget z ≡ forget y) Breaks at (separator ++ text y)
     behind_each y good at =
         spells_then separator (text y) (mark at) (λ m any. each y good (at + length separator)) (λ more ends. tt)
 
@@ -111,9 +115,10 @@ spells_listed {X} k P forget text Good separator mark breaks each x xs good at =
     list_breaks ys more ends = joined-breaks (λ z. separator ++ text z) behind_breaks ys more ends
 
 pub spells_conditions : (c : Condition) (conds : List Condition) → All GoodCondition (c ∷ conds) → (at : ℕ)
-    → Spells AreConditions (λ ys. map placeless_condition ys ≡ map placeless_condition (c ∷ conds)) Breaks at (conditions_text (c ∷ conds))
+    → Spells grammar.conditions.spells (λ ys. map placeless_condition ys ≡ map placeless_condition (c ∷ conds)) Breaks at (conditions_text (c ∷ conds))
+unfolding grammar.conditions
 spells_conditions c conds good at =
-    spells_listed (mark.Keyword keyword.And) IsCondition placeless_condition condition_text GoodCondition (codes " AND ")
+    spells_listed (mark.Keyword keyword.And) grammar.condition placeless_condition condition_text GoodCondition (codes " AND ")
     (spells_between keyword.And) (λ more. refl) spells_condition c conds good at
 
 -- a function over a column, and the count
@@ -126,7 +131,8 @@ enclosed : (f c : List ℕ) → f ++ codes "(" ++ c ++ codes ")" ≡ f ++ (codes
 enclosed f c = simp append_assoc
 
 spells_aggregate : (i : Item) → IsAnAggregate i → IsWritableItem i → (at : ℕ)
-    → Spells IsAggregate (λ y. placeless_item y ≡ placeless_item i) Breaks at (item_text i)
+    → Spells grammar.aggregate.spells (λ y. placeless_item y ≡ placeless_item i) Breaks at (item_text i)
+unfolding grammar.aggregate grammar.count grammar.over_column
 spells_aggregate (Plain c) aggregate named at = absurd aggregate
 spells_aggregate (Aggregate func c place) aggregate named at =
     let word : List ℕ = function_text func in
@@ -151,7 +157,8 @@ spells_aggregate (Count place) aggregate named at =
 
 -- an item of a select list
 pub spells_item : (i : Item) → IsWritableItem i → (at : ℕ)
-    → Spells IsItem (λ y. placeless_item y ≡ placeless_item i) Breaks at (item_text i)
+    → Spells grammar.item.spells (λ y. placeless_item y ≡ placeless_item i) Breaks at (item_text i)
+unfolding grammar.item
 spells_item (Plain c) named at =
     spells_left (spells_last (λ d. Plain d) (column_text c) (spells_column c named at) (λ d is. ap (λ e. Plain e) is))
 spells_item (Aggregate func c place) named at = spells_right (spells_aggregate (Aggregate func c place) tt named at)
@@ -163,14 +170,15 @@ pub record GoodHaving (h : Having) : Type 0 where
   pub in_range : IsHavingInRange h
 
 same_having : (h : Having) (item : Item) (op : CmpOp) (literal : Literal) → placeless_item item ≡ placeless_item h.item → op ≡ h.op
-    → literal ≡ h.literal → placeless_having (having item op literal) ≡ placeless_having h
+    → literal ≡ h.literal → placeless_having (make_having item op literal) ≡ placeless_having h
 same_having h item op literal is_item is_op is_literal =
     ap (λ (x : Item). record { item = x; op = op; literal = literal }) is_item
     ∙ ap (λ (o : CmpOp). record { item = placeless_item h.item; op = o; literal = literal }) is_op
     ∙ ap (λ (l : Literal). record { item = placeless_item h.item; op = h.op; literal = l }) is_literal
 
 pub spells_having : (h : Having) → GoodHaving h → (at : ℕ)
-    → Spells IsHaving (λ y. placeless_having y ≡ placeless_having h) Breaks at (having_text h)
+    → Spells grammar.having.spells (λ y. placeless_having y ≡ placeless_having h) Breaks at (having_text h)
+unfolding grammar.having
 spells_having h good at =
     let item : List ℕ = item_text h.item in
     let op : List ℕ = codes " " ++ (op_text h.op ++ codes " ") in
@@ -178,7 +186,7 @@ spells_having h good at =
     spells_as (item ++ (op ++ literal)) (having_text h) (sym (spaced item (op_text h.op) literal))
     (spells_then item (op ++ literal) (spells_aggregate h.item good.writable.aggregate good.writable.item at)
     (λ x is_item. spells_then op literal (spells_op h.op (at + length item))
-    (λ o is_op. spells_last (having x o) literal (spells_literal h.literal good.writable.literal good.in_range.literal (at + length item + length op))
+    (λ o is_op. spells_last (make_having x o) literal (spells_literal h.literal good.writable.literal good.in_range.literal (at + length item + length op))
     (λ y is_literal. same_having h x o y is_item is_op is_literal))
     (λ more ends. tt))
     (λ more ends. refl))
@@ -192,12 +200,14 @@ pub good_conditions : (conds : List Condition) → All IsWritableCondition conds
 good_conditions conds writable in_range = λ k d below. record { writable = writable k d below; in_range = in_range k d below }
 
 pub spells_first_source : (table : List ℕ) → IsName table → (at : ℕ)
-    → Spells IsFirstSource (λ y. placeless_source y ≡ record { table = table; at = 0; on = [] }) Breaks at table
+    → Spells grammar.first_source.spells (λ y. placeless_source y ≡ record { table = table; at = 0; on = [] }) Breaks at table
+unfolding grammar.first_source
 spells_first_source table named at =
-    spells_last (λ x. source x []) table (spells_name table named at) (λ x is. ap (λ t. record { table = t; at = 0; on = [] }) is)
+    spells_last (λ x. make_source x []) table (spells_name table named at) (λ x is. ap (λ t. record { table = t; at = 0; on = [] }) is)
 
 joined_by : (table : List ℕ) (on : List Condition) → IsName table → All GoodCondition on → (at : ℕ)
-    → Spells IsSource (λ y. placeless_source y ≡ record { table = table; at = 0; on = map placeless_condition on }) Breaks at (joined_text table on)
+    → Spells grammar.source.spells (λ y. placeless_source y ≡ record { table = table; at = 0; on = map placeless_condition on }) Breaks at (joined_text table on)
+unfolding grammar.source grammar.joined
 joined_by table [] named good at =
     spells_left (spells_then (codes ", ") table (spells_comma at) (λ m any. spells_first_source table named (at + 2)) (λ more ends. tt))
 joined_by table (c ∷ on) named good at =
@@ -208,7 +218,7 @@ joined_by table (c ∷ on) named good at =
     (spells_then join (table ++ (word ++ conds)) (spells_between keyword.Join at)
     (λ m any. spells_then table (word ++ conds) (spells_name table named (at + 6))
     (λ x is. spells_then word conds (spells_between keyword.On (at + 6 + length table))
-    (λ m any. spells_last (source x) conds (spells_conditions c on good (at + 6 + length table + 4)) (λ ys are. same_source x ys is are))
+    (λ m any. spells_last (make_source x) conds (spells_conditions c on good (at + 6 + length table + 4)) (λ ys are. same_source x ys is are))
     (λ more ends. tt))
     (λ more ends. refl))
     (λ more ends. tt)))
@@ -217,11 +227,11 @@ joined_by table (c ∷ on) named good at =
     in_order a b d e = simp append_assoc
 
     same_source : (x : Lexeme) (ys : List Condition) → x.text ≡ table → map placeless_condition ys ≡ map placeless_condition (c ∷ on)
-        → placeless_source (source x ys) ≡ record { table = table; at = 0; on = map placeless_condition (c ∷ on) }
+        → placeless_source (make_source x ys) ≡ record { table = table; at = 0; on = map placeless_condition (c ∷ on) }
     same_source x ys is are =
         ap (λ t. record { table = t; at = 0; on = map placeless_condition ys }) is
         ∙ ap (λ zs. record { table = table; at = 0; on = zs }) are
 
 pub spells_source : (s : Source) → GoodSource s → (at : ℕ)
-    → Spells IsSource (λ y. placeless_source y ≡ placeless_source s) Breaks at (source_text s)
+    → Spells grammar.source.spells (λ y. placeless_source y ≡ placeless_source s) Breaks at (source_text s)
 spells_source s good at = joined_by s.table s.on good.writable.table (good_conditions s.on good.writable.on good.in_range.on) at

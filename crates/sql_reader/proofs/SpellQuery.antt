@@ -7,13 +7,13 @@ use Rattle.sql_lexer.specs.Lexing.{Lexeme, lexed, lexed_from}
 use Rattle.sql_lexer.proofs.Steps.{lexed_from-end}
 use Rattle.sql_lexer.proofs.Turns.{behind}
 use Rattle.sql_reader.specs.declared.mark.Mark.TheVariants as mark
-use Rattle.sql_reader.specs.Phrases.{Then}
 use Rattle.sql_reader.specs.Syntax.{Column, Condition, Item, Source, Having, Query}
-use Rattle.sql_reader.specs.Grammar.{IsKeyword, Listed, IsColumn, IsItem, AreSources, IsWhere, IsHaving, AreHavings, Grouping, grouping, IsGrouping, query, IsTail, IsQuery}
+use Rattle.sql_reader.specs.Grammar as grammar
+use Rattle.sql_reader.specs.Grammar.{Grouping, make_grouping, make_query, IsQuery}
 use Rattle.sql_reader.specs.Writable.{IsNamed, IsWritableItem, IsWritable}
 use Rattle.sql_reader.specs.Spelling.{separated, column_text, item_text, source_text, more_sources_text, sources_text, conditions_text, where_text, group_text, having_text, havings_text, query_text}
 use Rattle.sql_reader.specs.Placeless.{placeless_column, placeless_condition, placeless_item, placeless_source, placeless_having, placeless, ReadsBack}
-use Rattle.sql_reader.specs.PrintParts.{IsQueryInRange}
+use Rattle.sql_reader.specs.inside.PrintParts.{IsQueryInRange}
 use Rattle.sql_reader.proofs.SpellLexing.{Breaks}
 use Rattle.sql_reader.proofs.SpellPhrases.{Spells, spells_as, spells_none, spells_left, spells_right, spells_apart, spells_then, spells_end, spells_last, joined, joined-breaks, all_head, all_tail, spells_many}
 use Rattle.sql_reader.proofs.SpellTokens.{Untold, spells_keyword, spells_between, spells_comma}
@@ -33,7 +33,8 @@ source_breaks s more = by_on s.table s.on
     by_on table (c ∷ on) = refl
 
 spells_sources : (s : Source) (rest : List Source) → s.on ≡ [] → All GoodSource (s ∷ rest) → (at : ℕ)
-    → Spells AreSources (λ ys. map placeless_source ys ≡ map placeless_source (s ∷ rest)) Breaks at (sources_text (s ∷ rest))
+    → Spells grammar.sources.spells (λ ys. map placeless_source ys ≡ map placeless_source (s ∷ rest)) Breaks at (sources_text (s ∷ rest))
+unfolding grammar.sources
 spells_sources s rest alone good at =
     let first : GoodSource s = all_head GoodSource s rest good in
     spells_then s.table (more_sources_text rest) (spells_first_source s.table first.writable.table at)
@@ -46,7 +47,8 @@ spells_sources s rest alone good at =
 
 -- WHERE
 spells_where : (conds : List Condition) → All GoodCondition conds → (at : ℕ)
-    → Spells IsWhere (λ ys. map placeless_condition ys ≡ map placeless_condition conds) Breaks at (where_text conds)
+    → Spells grammar.filters.spells (λ ys. map placeless_condition ys ≡ map placeless_condition conds) Breaks at (where_text conds)
+unfolding grammar.filters
 spells_where [] good at = spells_right (spells_none Breaks at [] refl)
 spells_where (c ∷ conds) good at =
     spells_left (spells_then (codes " WHERE ") (conditions_text (c ∷ conds)) (spells_between keyword.Where at)
@@ -54,11 +56,12 @@ spells_where (c ∷ conds) good at =
 
 -- HAVING
 spells_havings : (having : List Having) → All GoodHaving having → (at : ℕ)
-    → Spells AreHavings (λ ys. map placeless_having ys ≡ map placeless_having having) Breaks at (havings_text having)
+    → Spells grammar.havings.spells (λ ys. map placeless_having ys ≡ map placeless_having having) Breaks at (havings_text having)
+unfolding grammar.havings grammar.having_list
 spells_havings [] good at = spells_right (spells_none Breaks at [] refl)
 spells_havings (h ∷ having) good at =
     spells_left (spells_then (codes " HAVING ") (separated (codes " AND ") (map having_text (h ∷ having))) (spells_between keyword.Having at)
-    (λ m any. spells_listed (mark.Keyword keyword.And) IsHaving placeless_having having_text GoodHaving (codes " AND ")
+    (λ m any. spells_listed (mark.Keyword keyword.And) grammar.having placeless_having having_text GoodHaving (codes " AND ")
     (spells_between keyword.And) (λ more. refl) spells_having h having good (at + 8)) (λ more ends. tt))
 
 havings_breaks : (having : List Having) (more : List ℕ) → Breaks more → Breaks (havings_text having ++ more)
@@ -71,9 +74,10 @@ record SameGroups (group : List Column) (having : List Having) (g : Grouping) : 
   pub havings : map placeless_having g.having ≡ map placeless_having having
 
 spells_grouping : (group : List Column) (having : List Having) → All IsNamed group → All GoodHaving having → (group ≡ [] → having ≡ [])
-    → (at : ℕ) → Spells IsGrouping (SameGroups group having) Breaks at (group_text group ++ havings_text having)
+    → (at : ℕ) → Spells grammar.grouping.spells (SameGroups group having) Breaks at (group_text group ++ havings_text having)
+unfolding grammar.grouping grammar.grouped_by grammar.group
 spells_grouping [] [] named good grouped at =
-    spells_right (spells_none Breaks at (grouping [] []) (record { groups = refl; havings = refl }))
+    spells_right (spells_none Breaks at (make_grouping [] []) (record { groups = refl; havings = refl }))
 spells_grouping [] (h ∷ having) named good grouped at = absurd (cc (grouped refl))
 spells_grouping (c ∷ group) having named good grouped at =
     let columns : List ℕ = separated (codes ", ") (map column_text (c ∷ group)) in
@@ -83,9 +87,9 @@ spells_grouping (c ∷ group) having named good grouped at =
     (spells_then (codes " GROUP ") (codes "BY " ++ (columns ++ tail)) (spells_between keyword.Group at)
     (λ m any. spells_then (codes "BY ") (columns ++ tail) (spells_apart (codes "BY") (λ more. refl) (spells_keyword keyword.By (at + 7)))
     (λ m any. spells_then columns tail
-    (spells_listed mark.Comma IsColumn placeless_column column_text IsNamed (codes ", ") spells_comma (λ more. refl) spells_column c group named
+    (spells_listed mark.Comma grammar.column placeless_column column_text IsNamed (codes ", ") spells_comma (λ more. refl) spells_column c group named
     (at + 7 + 3))
-    (λ cs groups. spells_last (grouping cs) tail (spells_havings having good (at + 7 + 3 + length columns))
+    (λ cs groups. spells_last (make_grouping cs) tail (spells_havings having good (at + 7 + 3 + length columns))
     (λ hs havings. record { groups = groups; havings = havings }))
     (λ more ends. havings_breaks having more ends))
     (λ more ends. tt))
@@ -103,7 +107,7 @@ where_breaks (c ∷ conds) more ends = refl
 same_query : (q : Query) (items : List Item) (sources : List Source) (conds : List Condition) (g : Grouping)
     → map placeless_item items ≡ map placeless_item q.items → map placeless_source sources ≡ map placeless_source q.sources
     → map placeless_condition conds ≡ map placeless_condition q.conds → SameGroups q.group q.having g
-    → placeless (query items sources conds g) ≡ placeless q
+    → placeless (make_query items sources conds g) ≡ placeless q
 same_query q items sources conds g is_items is_sources is_conds is_groups =
     ap (λ xs. five xs (map placeless_source sources) (map placeless_condition conds) (map placeless_column g.group) (map placeless_having g.having)) is_items
     ∙ ap (λ xs. five (map placeless_item q.items) xs (map placeless_condition conds) (map placeless_column g.group) (map placeless_having g.having)) is_sources
@@ -133,14 +137,15 @@ good_query q writable in_range = record {
 
 spells_tail : (q : Query) (items : List Item) (sources : List Source) → GoodQuery q → map placeless_item items ≡ map placeless_item q.items
     → map placeless_source sources ≡ map placeless_source q.sources → (at : ℕ)
-    → Spells (IsTail items sources) (λ y. placeless y ≡ placeless q) Breaks at (where_text q.conds ++ (group_text q.group ++ havings_text q.having))
+    → Spells (grammar.tail items sources).spells (λ y. placeless y ≡ placeless q) Breaks at (where_text q.conds ++ (group_text q.group ++ havings_text q.having))
+unfolding grammar.tail grammar.ending
 spells_tail q items sources good is_items is_sources at =
     let conds_text : List ℕ = where_text q.conds in
     let groups_text : List ℕ = group_text q.group ++ havings_text q.having in
     spells_then conds_text groups_text (spells_where q.conds good.conds at)
     (λ cs is_conds. spells_end groups_text
     (spells_grouping q.group q.having good.writable.group good.having good.writable.grouped (at + length conds_text))
-    (λ gs is_groups. spells_last {S = Untold} (λ e. query items sources cs gs) []
+    (λ gs is_groups. spells_last {S = Untold} (λ e. make_query items sources cs gs) []
     (spells_right (spells_none Breaks (at + length conds_text + length groups_text) tt tt))
     (λ e any. same_query q items sources cs gs is_items is_sources is_conds is_groups)))
     (λ more ends. grouping_breaks q.group q.having more ends)
@@ -152,14 +157,15 @@ tail_breaks q more ends =
 
 -- the select list
 spells_items : (items : List Item) → 1 ≤ length items → All IsWritableItem items → (at : ℕ)
-    → Spells (Listed mark.Comma IsItem) (λ ys. map placeless_item ys ≡ map placeless_item items) Breaks at
+    → Spells grammar.items.spells (λ ys. map placeless_item ys ≡ map placeless_item items) Breaks at
     (separated (codes ", ") (map item_text items))
+unfolding grammar.items
 spells_items [] some writable at = absurd (omega arith)
 spells_items (i ∷ items) some writable at =
-    spells_listed mark.Comma IsItem placeless_item item_text IsWritableItem (codes ", ") spells_comma (λ more. refl) spells_item i items writable at
+    spells_listed mark.Comma grammar.item placeless_item item_text IsWritableItem (codes ", ") spells_comma (λ more. refl) spells_item i items writable at
 
 spells_tables : (sources : List Source) → 1 ≤ length sources → IfSome (slice_get sources 0) (λ s. s.on ≡ []) → All GoodSource sources → (at : ℕ)
-    → Spells AreSources (λ ys. map placeless_source ys ≡ map placeless_source sources) Breaks at (sources_text sources)
+    → Spells grammar.sources.spells (λ ys. map placeless_source ys ≡ map placeless_source sources) Breaks at (sources_text sources)
 spells_tables [] some alone good at = absurd (omega arith)
 spells_tables (s ∷ rest) some alone good at = spells_sources s rest alone good at
 
@@ -167,12 +173,8 @@ in_order : (a b c d e f g : List ℕ) → a ++ b ++ c ++ d ++ e ++ f ++ g ≡ a 
 in_order a b c d e f g = simp append_assoc
 
 -- the whole query
-abbrev IsPhrase : Query → List Lexeme → Type 0
-IsPhrase = Then (IsKeyword keyword.Select) (λ _. Then (Listed mark.Comma IsItem) (λ items.
-    Then (IsKeyword keyword.From) (λ _. Then AreSources (λ sources. IsTail items sources))))
-
-spells_query : (q : Query) → GoodQuery q → Spells IsPhrase (λ y. placeless y ≡ placeless q) Breaks 0 (query_text q)
-unfolding query_text
+spells_query : (q : Query) → GoodQuery q → Spells grammar.query.spells (λ y. placeless y ≡ placeless q) Breaks 0 (query_text q)
+unfolding query_text grammar.query
 spells_query q good =
     let items : List ℕ = separated (codes ", ") (map item_text q.items) in
     let tables : List ℕ = sources_text q.sources in
@@ -199,8 +201,8 @@ whole_lexed text ts lexes =
 
 pub reads_back : (q : Query) → IsWritable q → IsQueryInRange q → ReadsBack q (query_text q)
 reads_back q writable in_range =
-    let spelled : Spells IsPhrase (λ y. placeless y ≡ placeless q) Breaks 0 (query_text q) = spells_query q (good_query q writable in_range) in
-    let is_query : IsQuery spelled.value spelled.tokens = record { phrase = spelled.phrase } in
+    let spelled : Spells grammar.query.spells (λ y. placeless y ≡ placeless q) Breaks 0 (query_text q) = spells_query q (good_query q writable in_range) in
+    let is_query : IsQuery spelled.value spelled.tokens = spelled.phrase in
     record {
       read = spelled.value;
       is_read = record {

@@ -5,9 +5,8 @@ use Rattle.std.proofs.lemmas.Bool.Decides.{nat_tests}
 use Rattle.std.proofs.lemmas.List.{take_at}
 use Rattle.word_forms.specs.declared.keyword.Keyword.{Keyword}
 use Rattle.word_forms.specs.declared.keyword.Keyword.TheVariants as keyword
-use Rattle.word_forms.specs.Keywords.{keyword_of, spelling}
-use Rattle.word_forms.specs.Words.{is_word, is_first, is_later}
-use Rattle.std.specs.List.{list_all}
+use Rattle.word_forms.specs.Keywords.{spelling}
+use Rattle.word_forms.proofs.KeywordLaws.{keyword_of-spelling, is_word-spelling}
 use Rattle.std.specs.Fmt.{signed_decimal}
 use Rattle.mq_base.specs.declared.query.Agg.{Agg}
 use Rattle.mq_base.specs.declared.query.Agg.TheVariants as agg
@@ -18,7 +17,6 @@ use Rattle.sql_lexer.specs.declared.token.TokenKind.TheVariants as kind
 use Rattle.sql_lexer.specs.declared.fronts.Front.TheVariants.{Taken}
 use Rattle.sql_lexer.specs.Lexing.{is_short_symbol, is_long_symbol, front_of, Lexeme}
 use Rattle.sql_lexer.specs.Longest.{IsWord}
-use Rattle.sql_lexer.proofs.Runs.{both}
 use Rattle.sql_lexer.proofs.TokenFronts.{Stops, word_alone, number_alone, text_alone, short_alone, long_alone}
 use Rattle.sql_reader.specs.declared.mark.Mark.{Mark}
 use Rattle.sql_reader.specs.declared.mark.Mark.TheVariants as mark
@@ -26,11 +24,11 @@ use Rattle.sql_reader.specs.Marks.{word_mark_of, symbol_mark, mark_of, mark_numb
 use Rattle.sql_reader.specs.Phrases.{One}
 use Rattle.sql_reader.specs.Syntax.{Literal, Number, Text}
 use Rattle.sql_reader.specs.Grammar as grammar
-use Rattle.sql_reader.specs.Grammar.{IsMark, IsKeyword, marked, op_in, literal_in, inside_of, Function, function_in}
+use Rattle.sql_reader.specs.Grammar.{sign, reserved, marked, op_in, literal_in, inside_of, Function, function_in}
 use Rattle.sql_reader.specs.Reading.{is_wide, first_wide}
 use Rattle.sql_reader.specs.Writable.{IsName, IsPaired}
 use Rattle.sql_reader.specs.Spelling.{op_text, function_text, literal_text}
-use Rattle.sql_reader.specs.PrintParts.{IsInRange}
+use Rattle.sql_reader.specs.inside.PrintParts.{IsInRange}
 use Rattle.sql_reader.proofs.SpellLexing.{Any, Breaks, breaks_words, breaks_digits, breaks_texts, lexes_one}
 use Rattle.sql_reader.proofs.SpellPhrases.{Spells, spells_as, spells_space, spells_apart}
 use Rattle.sql_reader.proofs.SpellNumbers.{signed_decimal-number, integer_of-signed_decimal, signed_decimal-filled}
@@ -59,55 +57,20 @@ spells_one take T E at kind text x takes told no_wide filled front =
     }
 
 -- a word
-word_is : (text : List ℕ) → is_word text ≡ true → IsWord text
-word_is [] word = cc
-word_is (b ∷ rest) word = both (is_first b) (list_all is_later rest) word
-
 word_filled : (text : List ℕ) → IsWord text → 0 < length text
-word_filled [] word = absurd word
+word_filled [] word = cc
 word_filled (b ∷ rest) word = omega arith
 
 -- a name
-pub spells_name : (text : List ℕ) → IsName text → (at : ℕ) → Spells grammar.IsName (λ x. x.text ≡ text) Breaks at text
+pub spells_name : (text : List ℕ) → IsName text → (at : ℕ) → Spells grammar.name.spells (λ x. x.text ≡ text) Breaks at text
 spells_name text name at =
     let token : Lexeme = record { kind = kind.Word; text = text; at = at } in
     let marks : mark_of token ≡ mark.Name = ap word_mark_of name.no_keyword in
     spells_one (marked mark.Name) (λ x. x.text ≡ text) Breaks at kind.Word text token
-    (rw (name.no_keyword) refl) refl (rw (name.no_keyword) refl) (word_filled text (word_is text name.word))
-    (λ more ends. word_alone text more (word_is text name.word) (breaks_words more ends))
+    (rw (name.no_keyword) refl) refl (rw (name.no_keyword) refl) (word_filled text name.word)
+    (λ more ends. word_alone text more name.word (breaks_words more ends))
 
 -- a keyword in capitals
-keyword_of-spelling : (k : Keyword) → keyword_of (spelling k) ≡ Some k
-unfolding keyword_of
-keyword_of-spelling keyword.Select = refl
-keyword_of-spelling keyword.From = refl
-keyword_of-spelling keyword.Join = refl
-keyword_of-spelling keyword.On = refl
-keyword_of-spelling keyword.Where = refl
-keyword_of-spelling keyword.And = refl
-keyword_of-spelling keyword.Group = refl
-keyword_of-spelling keyword.By = refl
-keyword_of-spelling keyword.Having = refl
-keyword_of-spelling keyword.Sum = refl
-keyword_of-spelling keyword.Min = refl
-keyword_of-spelling keyword.Max = refl
-keyword_of-spelling keyword.Count = refl
-
-spelling-word : (k : Keyword) → is_word (spelling k) ≡ true
-spelling-word keyword.Select = refl
-spelling-word keyword.From = refl
-spelling-word keyword.Join = refl
-spelling-word keyword.On = refl
-spelling-word keyword.Where = refl
-spelling-word keyword.And = refl
-spelling-word keyword.Group = refl
-spelling-word keyword.By = refl
-spelling-word keyword.Having = refl
-spelling-word keyword.Sum = refl
-spelling-word keyword.Min = refl
-spelling-word keyword.Max = refl
-spelling-word keyword.Count = refl
-
 same_number : (n : ℕ) → (n == n) ≡ true
 same_number n = grind (arith, nat_tests)
 
@@ -121,15 +84,15 @@ keyword_no_number k = grind (arith, nat_tests)
 keyword_narrow : (k : Keyword) (at : ℕ) → is_wide (record { kind = kind.Word; text = spelling k; at = at }) ≡ false
 keyword_narrow k at = rw (keyword_of-spelling k, keyword_no_number k) refl
 
-pub spells_keyword : (k : Keyword) (at : ℕ) → Spells (IsKeyword k) Untold Breaks at (spelling k)
+pub spells_keyword : (k : Keyword) (at : ℕ) → Spells (reserved k).spells Untold Breaks at (spelling k)
 spells_keyword k at =
     let token : Lexeme = record { kind = kind.Word; text = spelling k; at = at } in
     spells_one (marked (mark.Keyword k)) Untold Breaks at kind.Word (spelling k) token
-    (keyword_marked k at) tt (keyword_narrow k at) (word_filled (spelling k) (word_is (spelling k) (spelling-word k)))
-    (λ more ends. word_alone (spelling k) more (word_is (spelling k) (spelling-word k)) (breaks_words more ends))
+    (keyword_marked k at) tt (keyword_narrow k at) (word_filled (spelling k) (is_word-spelling k))
+    (λ more ends. word_alone (spelling k) more (is_word-spelling k) (breaks_words more ends))
 
 -- a keyword between spaces
-pub spells_between : (k : Keyword) (at : ℕ) → Spells (IsKeyword k) Untold Any at (32 ∷ (spelling k ++ 32 ∷ []))
+pub spells_between : (k : Keyword) (at : ℕ) → Spells (reserved k).spells Untold Any at (32 ∷ (spelling k ++ 32 ∷ []))
 spells_between k at = spells_space (spells_apart (spelling k) (λ more. refl) (spells_keyword k (at + 1)))
 
 -- a symbol of one byte that begins no longer one
@@ -142,29 +105,29 @@ lone_stops b (c ∷ rest) lone = lone c
 
 spells_symbol : (k : Mark) (b : ℕ) (at : ℕ) → is_short_symbol b ≡ true → IsLone b
     → marked k (record { kind = kind.Symbol; text = b ∷ []; at = at }) ≡ Some (record { kind = kind.Symbol; text = b ∷ []; at = at })
-    → is_wide (record { kind = kind.Symbol; text = b ∷ []; at = at }) ≡ false → Spells (IsMark k) Untold Any at (b ∷ [])
+    → is_wide (record { kind = kind.Symbol; text = b ∷ []; at = at }) ≡ false → Spells (sign k).spells Untold Any at (b ∷ [])
 spells_symbol k b at short lone marks no_wide =
     spells_one (marked k) Untold Any at kind.Symbol (b ∷ []) (record { kind = kind.Symbol; text = b ∷ []; at = at })
     marks tt no_wide (omega arith) (λ more any. short_alone b more short (lone_stops b more lone))
 
-pub spells_dot : (at : ℕ) → Spells (IsMark mark.Dot) Untold Any at (codes ".")
+pub spells_dot : (at : ℕ) → Spells (sign mark.Dot).spells Untold Any at (codes ".")
 unfolding symbol_mark
 spells_dot at = spells_symbol mark.Dot 46 at refl (λ c. refl) refl refl
 
-pub spells_open : (at : ℕ) → Spells (IsMark mark.Open) Untold Any at (codes "(")
+pub spells_open : (at : ℕ) → Spells (sign mark.Open).spells Untold Any at (codes "(")
 unfolding symbol_mark
 spells_open at = spells_symbol mark.Open 40 at refl (λ c. refl) refl refl
 
-pub spells_close : (at : ℕ) → Spells (IsMark mark.Close) Untold Any at (codes ")")
+pub spells_close : (at : ℕ) → Spells (sign mark.Close).spells Untold Any at (codes ")")
 unfolding symbol_mark
 spells_close at = spells_symbol mark.Close 41 at refl (λ c. refl) refl refl
 
-pub spells_star : (at : ℕ) → Spells (IsMark mark.Star) Untold Any at (codes "*")
+pub spells_star : (at : ℕ) → Spells (sign mark.Star).spells Untold Any at (codes "*")
 unfolding symbol_mark
 spells_star at = spells_symbol mark.Star 42 at refl (λ c. refl) refl refl
 
 -- a comma, with the space behind it
-pub spells_comma : (at : ℕ) → Spells (IsMark mark.Comma) Untold Any at (codes ", ")
+pub spells_comma : (at : ℕ) → Spells (sign mark.Comma).spells Untold Any at (codes ", ")
 unfolding symbol_mark
 spells_comma at = spells_apart (codes ",") (λ more. tt) (spells_symbol mark.Comma 44 at refl (λ c. refl) refl refl)
 
@@ -241,8 +204,8 @@ spells_function func at =
     let function : Function = record { func = func; at = at } in
     spells_as (spelling k) (function_text func) (function_text-spelling func)
     (spells_one function_in (λ f. f.func ≡ func) Breaks at kind.Word (spelling k) function (function_taken func at) refl (keyword_narrow k at)
-    (word_filled (spelling k) (word_is (spelling k) (spelling-word k)))
-    (λ more ends. word_alone (spelling k) more (word_is (spelling k) (spelling-word k)) (breaks_words more ends)))
+    (word_filled (spelling k) (is_word-spelling k))
+    (λ more ends. word_alone (spelling k) more (is_word-spelling k) (breaks_words more ends)))
 
 -- a literal
 inside_of-text : (inside : List ℕ) → inside_of (39 ∷ (inside ++ 39 ∷ [])) ≡ inside

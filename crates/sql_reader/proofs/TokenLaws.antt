@@ -21,7 +21,7 @@ use Rattle.sql_reader.specs.declared.mark.Mark.TheVariants as mark
 use Rattle.sql_reader.specs.Marks.{word_mark_of, symbol_mark, kind_mark, mark_number}
 use Rattle.sql_reader.specs.Reading.{is_wide}
 use Rattle.sql_reader.specs.Outcome.{wide_place}
-use Rattle.sql_reader.specs.Answers.{IsWhole, AreWhole, with_next}
+use Rattle.sql_reader.specs.inside.Answers.{IsWhole, AreWhole, with_next}
 
 -- the next token of whole ones is whole
 pub next-whole : (ts : List Token) (at : ℕ) (t : Lexeme) (rest : List Lexeme) → AreWhole ts → drop at (map lexeme ts) ≡ t ∷ rest → IsWhole t

@@ -1,20 +1,18 @@
 -- A query that whole tokens spell can be written.
-use Rattle.std.proofs.Common.{◌≡◌, inl, inr, ℕ, ◌-◌, ◌≤◌, Bool, true, false, ◌&&◌, List, [], ◌∷◌, ◌++◌, length, take, drop, map, Option, Some, None, Result, Ok, Err, refl, sym, ap, subst, ◌∙◌, arith, length-append}
+use Rattle.std.proofs.Common.{◌≡◌, inl, inr, ℕ, ◌-◌, ◌≤◌, Bool, true, false, List, [], ◌∷◌, ◌++◌, length, take, drop, map, Option, Some, None, Result, Ok, Err, refl, sym, ap, subst, ◌∙◌, arith, length-append}
 use Rattle.std.specs.Prelude.{All, IfSome, IfOk, slice_get, if◌then◌else◌}
-use Rattle.std.specs.List.{list_all}
 use Rattle.std.proofs.lemmas.Bool.{eqb-true}
 use Rattle.std.proofs.lemmas.List.{take_at, drop_at}
 use Rattle.std.proofs.lemmas.List.Elements.{All-take, All-drop, All-head, All-nil, All-cons}
 use Rattle.word_forms.specs.declared.keyword.Keyword.{Keyword}
 use Rattle.word_forms.specs.declared.keyword.Keyword.TheVariants as keyword
 use Rattle.word_forms.specs.Keywords.{keyword_of}
-use Rattle.word_forms.specs.Words.{is_word}
 use Rattle.sql_lexer.specs.declared.token.TokenKind.{TokenKind}
 use Rattle.sql_lexer.specs.declared.token.TokenKind.TheVariants as kind
 use Rattle.sql_lexer.specs.declared.token.Token.{Token}
-use Rattle.sql_lexer.specs.declared.refusal.LexNo.{LexNo}
-use Rattle.sql_lexer.specs.Lexing.{Lexeme, lexeme, lexed, is_letter, is_word_byte}
-use Rattle.sql_lexer.specs.Longest.{IsWord, IsToken, IsInside, IsText}
+use Rattle.mq_base.specs.declared.refusal.Refusal.{Refusal}
+use Rattle.sql_lexer.specs.Lexing.{Lexeme, lexeme, lexed}
+use Rattle.sql_lexer.specs.Longest.{IsToken, IsInside, IsText}
 use Rattle.sql_reader.specs.declared.mark.Mark.{Mark}
 use Rattle.sql_reader.specs.declared.mark.Mark.TheVariants as mark
 use Rattle.sql_reader.specs.declared.raw.RawQuery.{RawQuery}
@@ -23,9 +21,10 @@ use Rattle.sql_reader.specs.Marks.{word_mark_of, kind_mark, mark_of, mark_number
 use Rattle.sql_reader.specs.Syntax.{Column, Literal, Number, Text, Col, Lit, Item, Plain, Aggregate, Count, Source, Having, Query, query_of}
 use Rattle.sql_reader.specs.Phrases.{Is, One, Then, Or, Many}
 use Rattle.sql_reader.specs.Grammar as grammar
-use Rattle.sql_reader.specs.Grammar.{marked, literal_marked, literal_in, number_in, inside_of, Listed, Grouping, IsQuery}
+use Rattle.sql_reader.specs.Rules.{Rule}
+use Rattle.sql_reader.specs.Grammar.{marked, literal_marked, literal_in, number_in, inside_of, listed, Grouping, IsQuery}
 use Rattle.sql_reader.specs.Reading.{IsRead}
-use Rattle.sql_reader.specs.Answers.{IsWhole, AreWhole}
+use Rattle.sql_reader.specs.inside.Answers.{IsWhole, AreWhole}
 use Rattle.sql_reader.specs.Writable.{IsName, IsNamed, IsPaired, IsWritableSide, IsWritableCondition, IsWritableItem, IsWritableSource, IsAnAggregate, IsWritableHaving, IsWritable}
 use Rattle.sql_reader.proofs.TokenLaws.{text-marked, symbol-marks}
 
@@ -85,26 +84,17 @@ record AreSome {X : Type 0} (W : X → Type 0) (xs : List X) : Type 0 where
   pub some : 1 ≤ length xs
   pub all : All W xs
 
-listed-keeps : {X : Type 0} {P : X → List Lexeme → Type 0} {W : X → Type 0} (separator : Mark) → Keeps P W → Keeps (Listed separator P) (AreSome W)
-listed-keeps {X} {P} {W} separator each = then-keeps each (λ x has. then-keeps (many-keeps (then-keeps any-keeps (λ _ _. each)))
+listed-keeps : {X : Type 0} (p : Rule X) {W : X → Type 0} (separator : Mark) → Keeps p.spells W → Keeps (listed separator p).spells (AreSome W)
+listed-keeps {X} p {W} separator each = then-keeps each (λ x has. then-keeps (many-keeps (then-keeps any-keeps (λ _ _. each)))
     (λ xs all. is-keeps (x ∷ xs) (record { some = omega arith; all = All-cons W x xs has all })))
 
 -- names
-word-is : (text : List ℕ) → IsWord text → is_word text ≡ true
-word-is [] word = absurd word
-word-is (b ∷ rest) word = both-true (is_letter b) (list_all is_word_byte rest) word.0 word.1
-  where
-    both-true : (x y : Bool) → x ≡ true → y ≡ true → (x && y) ≡ true
-    both-true true true first second = refl
-    both-true true false first second = cc
-    both-true false y first second = cc
-
 no_keyword : (k : Option Keyword) → mark_number (word_mark_of k) ≡ 0 → k ≡ None
 no_keyword (Some k) is = absurd (omega arith)
 no_keyword None is = refl
 
 name-marked : (kind : TokenKind) (text : List ℕ) → IsToken kind text → mark_number (kind_mark kind text) ≡ 0 → IsName text
-name-marked kind.Word text token is = record { word = word-is text token; no_keyword = no_keyword (keyword_of text) is }
+name-marked kind.Word text token is = record { word = token; no_keyword = no_keyword (keyword_of text) is }
 name-marked kind.Number text token is = absurd (omega arith)
 name-marked kind.Text text token is = absurd (omega arith)
 name-marked kind.Symbol text token is = absurd (omega (arith, (symbol-marks text).above))
@@ -118,7 +108,7 @@ name-taken t x is whole = by_test (is_mark mark.Name t) refl is
         subst (λ (y : Lexeme). IsName y.text) same (name-marked t.kind t.text whole (eqb-true (mark_number (mark_of t)) 0 named))
     by_test false other is = cc
 
-name-keeps : Keeps grammar.IsName (λ x. IsName x.text)
+name-keeps : Keeps grammar.name.spells (λ x. IsName x.text)
 name-keeps = one-keeps name-taken
 
 -- literals
@@ -142,34 +132,40 @@ literal-keeps : Keeps (One literal_in) IsPaired
 literal-keeps = one-keeps literal-taken
 
 -- the productions
-column-keeps : Keeps grammar.IsColumn IsNamed
+column-keeps : Keeps grammar.column.spells IsNamed
+unfolding grammar.column
 column-keeps = then-keeps name-keeps (λ first named. or-keeps
     (then-keeps any-keeps (λ _ _. then-keeps name-keeps (λ name is. is-keeps (grammar.qualified first name) (record { name = is; table = named }))))
     (is-keeps (grammar.bare first) (record { name = named; table = tt })))
 
-side-keeps : Keeps grammar.IsSide IsWritableSide
+side-keeps : Keeps grammar.side.spells IsWritableSide
+unfolding grammar.side
 side-keeps = or-keeps (then-keeps column-keeps (λ c named. is-keeps (Col c) named)) (then-keeps literal-keeps (λ l paired. is-keeps (Lit l) paired))
 
-condition-keeps : Keeps grammar.IsCondition IsWritableCondition
+condition-keeps : Keeps grammar.condition.spells IsWritableCondition
+unfolding grammar.condition
 condition-keeps = then-keeps column-keeps (λ left named. then-keeps any-keeps (λ op _. then-keeps side-keeps
-    (λ right is. is-keeps (grammar.condition left op right) (record { left = named; right = is }))))
+    (λ right is. is-keeps (grammar.make_condition left op right) (record { left = named; right = is }))))
 
-conditions-keep : Keeps grammar.AreConditions (AreSome IsWritableCondition)
-conditions-keep = listed-keeps (mark.Keyword keyword.And) condition-keeps
+conditions-keep : Keeps grammar.conditions.spells (AreSome IsWritableCondition)
+unfolding grammar.conditions
+conditions-keep = listed-keeps grammar.condition (mark.Keyword keyword.And) condition-keeps
 
 -- an aggregate that can be written
 record IsWritableAggregate (x : Item) : Type 0 where
   pub aggregate : IsAnAggregate x
   pub item : IsWritableItem x
 
-aggregate-keeps : Keeps grammar.IsAggregate IsWritableAggregate
+aggregate-keeps : Keeps grammar.aggregate.spells IsWritableAggregate
+unfolding grammar.aggregate grammar.count grammar.over_column
 aggregate-keeps = or-keeps
     (then-keeps any-keeps (λ word _. then-keeps any-keeps (λ _ _. then-keeps any-keeps (λ _ _. then-keeps any-keeps
     (λ _ _. is-keeps (Count word.at) (record { aggregate = tt; item = tt }))))))
     (then-keeps any-keeps (λ f _. then-keeps any-keeps (λ _ _. then-keeps column-keeps (λ c named. then-keeps any-keeps
     (λ _ _. is-keeps (Aggregate f.func c f.at) (record { aggregate = tt; item = named }))))))
 
-item-keeps : Keeps grammar.IsItem IsWritableItem
+item-keeps : Keeps grammar.item.spells IsWritableItem
+unfolding grammar.item
 item-keeps = or-keeps (then-keeps column-keeps (λ c named. is-keeps (Plain c) named))
     (record { keeps = λ x ts is whole. (aggregate-keeps.keeps x ts is whole).item })
 
@@ -178,37 +174,43 @@ record IsAlone (s : Source) : Type 0 where
   pub source : IsWritableSource s
   pub alone : s.on ≡ []
 
-first_source-keeps : Keeps grammar.IsFirstSource IsAlone
-first_source-keeps = then-keeps name-keeps (λ name named. is-keeps (grammar.source name [])
+first_source-keeps : Keeps grammar.first_source.spells IsAlone
+unfolding grammar.first_source
+first_source-keeps = then-keeps name-keeps (λ name named. is-keeps (grammar.make_source name [])
     (record { source = record { table = named; on = All-nil IsWritableCondition }; alone = refl }))
 
-source-keeps : Keeps grammar.IsSource IsWritableSource
+source-keeps : Keeps grammar.source.spells IsWritableSource
+unfolding grammar.source grammar.joined
 source-keeps = or-keeps
     (then-keeps any-keeps (λ _ _. record { keeps = λ x ts is whole. (first_source-keeps.keeps x ts is whole).source }))
     (then-keeps any-keeps (λ _ _. then-keeps name-keeps (λ name named. then-keeps any-keeps (λ _ _. then-keeps conditions-keep
-    (λ on has. is-keeps (grammar.source name on) (record { table = named; on = has.all }))))))
+    (λ on has. is-keeps (grammar.make_source name on) (record { table = named; on = has.all }))))))
 
 record AreWritableSources (sources : List Source) : Type 0 where
   pub some : 1 ≤ length sources
   pub all : All IsWritableSource sources
   pub first_alone : IfSome (slice_get sources 0) (λ s. s.on ≡ [])
 
-sources-keep : Keeps grammar.AreSources AreWritableSources
+sources-keep : Keeps grammar.sources.spells AreWritableSources
+unfolding grammar.sources
 sources-keep = then-keeps first_source-keeps (λ first has. then-keeps (many-keeps source-keeps)
     (λ more all. is-keeps (first ∷ more) (record { some = omega arith; all = All-cons IsWritableSource first more has.source all; first_alone = has.alone })))
 
-where-keeps : Keeps grammar.IsWhere (All IsWritableCondition)
+where-keeps : Keeps grammar.filters.spells (All IsWritableCondition)
+unfolding grammar.filters
 where-keeps = or-keeps (then-keeps any-keeps (λ _ _. record { keeps = λ x ts is whole. (conditions-keep.keeps x ts is whole).all }))
     (is-keeps [] (All-nil IsWritableCondition))
 
-having-keeps : Keeps grammar.IsHaving IsWritableHaving
+having-keeps : Keeps grammar.having.spells IsWritableHaving
+unfolding grammar.having
 having-keeps = then-keeps aggregate-keeps (λ item has. then-keeps any-keeps (λ op _. then-keeps literal-keeps
-    (λ literal paired. is-keeps (grammar.having item op literal) (record { aggregate = has.aggregate; item = has.item; literal = paired }))))
+    (λ literal paired. is-keeps (grammar.make_having item op literal) (record { aggregate = has.aggregate; item = has.item; literal = paired }))))
 
-havings-keep : Keeps grammar.AreHavings (All IsWritableHaving)
+havings-keep : Keeps grammar.havings.spells (All IsWritableHaving)
+unfolding grammar.havings grammar.having_list
 havings-keep = or-keeps
     (then-keeps any-keeps (λ _ _. record {
-      keeps = λ x ts is whole. ((listed-keeps (mark.Keyword keyword.And) having-keeps).keeps x ts is whole).all;
+      keeps = λ x ts is whole. ((listed-keeps grammar.having (mark.Keyword keyword.And) having-keeps).keeps x ts is whole).all;
     }))
     (is-keeps [] (All-nil IsWritableHaving))
 
@@ -221,18 +223,19 @@ some-group : (group : List Column) (having : List Having) → 1 ≤ length group
 some-group [] having some none = absurd (omega arith)
 some-group (c ∷ group) having some none = cc
 
-grouping-keeps : Keeps grammar.IsGrouping IsWritableGrouping
+grouping-keeps : Keeps grammar.grouping.spells IsWritableGrouping
+unfolding grammar.grouping grammar.grouped_by grammar.group
 grouping-keeps = or-keeps
-    (then-keeps any-keeps (λ _ _. then-keeps any-keeps (λ _ _. then-keeps (listed-keeps mark.Comma column-keeps) (λ group has. then-keeps havings-keep
-    (λ having all. is-keeps (grammar.grouping group having)
+    (then-keeps any-keeps (λ _ _. then-keeps any-keeps (λ _ _. then-keeps (listed-keeps grammar.column mark.Comma column-keeps) (λ group has. then-keeps havings-keep
+    (λ having all. is-keeps (grammar.make_grouping group having)
     (record { group = has.all; having = all; grouped = some-group group having has.some }))))))
-    (is-keeps (grammar.grouping [] []) (record { group = All-nil IsNamed; having = All-nil IsWritableHaving; grouped = λ none. refl }))
+    (is-keeps (grammar.make_grouping [] []) (record { group = All-nil IsNamed; having = All-nil IsWritableHaving; grouped = λ none. refl }))
 
-phrase-keeps : Keeps (Then (grammar.IsKeyword keyword.Select) (λ _. Then (Listed mark.Comma grammar.IsItem) (λ items.
-    Then (grammar.IsKeyword keyword.From) (λ _. Then grammar.AreSources (λ sources. grammar.IsTail items sources))))) IsWritable
-phrase-keeps = then-keeps any-keeps (λ _ _. then-keeps (listed-keeps mark.Comma item-keeps) (λ items has_items. then-keeps any-keeps
+query-keeps : Keeps grammar.query.spells IsWritable
+unfolding grammar.query grammar.tail grammar.items
+query-keeps = then-keeps any-keeps (λ _ _. then-keeps (listed-keeps grammar.item mark.Comma item-keeps) (λ items has_items. then-keeps any-keeps
     (λ _ _. then-keeps sources-keep (λ sources has_sources. then-keeps where-keeps (λ conds all. then-keeps grouping-keeps
-    (λ groups has_groups. then-keeps any-keeps (λ _ _. is-keeps (grammar.query items sources conds groups) (record {
+    (λ groups has_groups. then-keeps any-keeps (λ _ _. is-keeps (grammar.make_query items sources conds groups) (record {
       some_item = has_items.some;
       items = has_items.all;
       some_source = has_sources.some;
@@ -246,10 +249,10 @@ phrase-keeps = then-keeps any-keeps (λ _ _. then-keeps (listed-keeps mark.Comma
 
 -- a query that whole tokens spell can be written
 pub query-writable : (q : Query) (ts : List Lexeme) → IsQuery q ts → All IsWhole ts → IsWritable q
-query-writable q ts is whole = phrase-keeps.keeps q ts is.phrase whole
+query-writable q ts is whole = query-keeps.keeps q ts is whole
 
 -- and so can one that is read from a text
-same_tokens : (r : Result (List Lexeme) LexNo) (xs ys : List Lexeme) → r ≡ Ok xs → r ≡ Ok ys → xs ≡ ys
+same_tokens : (r : Result (List Lexeme) Refusal) (xs ys : List Lexeme) → r ≡ Ok xs → r ≡ Ok ys → xs ≡ ys
 same_tokens r xs ys first second = cc
 
 pub answer-writable : (text : List ℕ) (ts : List Token) (result : Result RawQuery SqlNo) → lexed text ≡ Ok (map lexeme ts) → AreWhole ts

@@ -1,6 +1,6 @@
--- The grammar of queries: which tokens spell which query, production by production. docs/FORMATS.md, "Query", gives
--- the productions in the same order.
-use Rattle.std.specs.Prelude.{ℕ, ℤ, pos, List, [], ◌∷◌, Option, Some, None, unwrap_or, take, drop, length, ◌-◌, if◌then◌else◌}
+-- The grammar of queries: each production once, as a rule that says which tokens spell which value, and how it is read.
+-- docs/FORMATS.md, "Query", gives the productions in the same order.
+use Rattle.std.specs.Prelude.{ℕ, ℤ, pos, Bool, List, [], ◌∷◌, Option, Some, None, unwrap_or, take, drop, length, ◌-◌, if◌then◌else◌}
 use Rattle.word_forms.specs.declared.keyword.Keyword.{Keyword}
 use Rattle.word_forms.specs.declared.keyword.Keyword.TheVariants as keyword
 use Rattle.word_forms.specs.Integers.{integer_of}
@@ -11,23 +11,30 @@ use Rattle.mq_base.specs.declared.query.CmpOp.TheVariants as cmp
 use Rattle.sql_lexer.specs.Lexing.{Lexeme}
 use Rattle.sql_reader.specs.declared.mark.Mark.{Mark}
 use Rattle.sql_reader.specs.declared.mark.Mark.TheVariants as mark
-use Rattle.sql_reader.specs.Marks.{mark_of, is_mark}
-use Rattle.sql_reader.specs.Phrases.{Is, One, Then, Or, Many}
+use Rattle.sql_reader.specs.Marks.{mark_of, is_mark, is_one_of}
+use Rattle.sql_reader.specs.Rules.{Rule, always, token, chain, either, several}
 use Rattle.sql_reader.specs.Syntax.{Column, Literal, Number, Text, Side, Col, Lit, Condition, Item, Plain, Aggregate, Count, Source, Having, Query}
 
 -- a token of this mark
 abbrev pub marked : Mark → Lexeme → Option Lexeme
 marked k x = if is_mark k x then Some x else None
 
-abbrev pub IsMark : Mark → Lexeme → List Lexeme → Type 0
-IsMark k = One (marked k)
+abbrev pub sign : Mark → Rule Lexeme
+sign k = token (marked k)
 
-abbrev pub IsKeyword : Keyword → Lexeme → List Lexeme → Type 0
-IsKeyword k = IsMark (mark.Keyword k)
+abbrev pub reserved : Keyword → Rule Lexeme
+reserved k = sign (mark.Keyword k)
+
+-- whether a token is of this mark, and whether it is this keyword
+abbrev pub is_sign : Mark → Lexeme → Bool
+is_sign k = is_one_of (k ∷ [])
+
+abbrev pub is_reserved : Keyword → Lexeme → Bool
+is_reserved k = is_sign (mark.Keyword k)
 
 -- name = a word that is no keyword
-abbrev pub IsName : Lexeme → List Lexeme → Type 0
-IsName = IsMark mark.Name
+abbrev pub name : Rule Lexeme
+name = sign mark.Name
 
 -- op = "=" | "<>" | "!=" | "<" | "<=" | ">" | ">="
 abbrev pub op_marked : Mark → Option CmpOp
@@ -41,6 +48,9 @@ op_marked _ = None
 
 abbrev pub op_in : Lexeme → Option CmpOp
 op_in x = op_marked (mark_of x)
+
+abbrev pub op : Rule CmpOp
+op = token op_in
 
 -- the value of a number; a number outside 64 bits has the value 0 here, and its text is refused
 abbrev pub number_in : Lexeme → ℤ
@@ -59,6 +69,9 @@ literal_marked _ x = None
 abbrev pub literal_in : Lexeme → Option Literal
 literal_in x = literal_marked (mark_of x) x
 
+abbrev pub literal : Rule Literal
+literal = token literal_in
+
 -- the functions SUM, MIN and MAX, with the place of the word
 pub record Function : Type 0 where
   pub func : Agg
@@ -73,110 +86,129 @@ function_marked _ at = None
 abbrev pub function_in : Lexeme → Option Function
 function_in x = function_marked (mark_of x) x.at
 
+abbrev pub function : Rule Function
+function = token function_in
+
+-- separator x
+abbrev pub behind : {X : Type 0} → Mark → Rule X → Rule X
+behind separator p = chain (sign separator) (λ _. p)
+
 -- x { separator x }
-abbrev pub Listed : {X : Type 0} → Mark → (X → List Lexeme → Type 0) → List X → List Lexeme → Type 0
-Listed separator P = Then P (λ x. Then (Many (Then (IsMark separator) (λ _. P))) (λ xs. Is (x ∷ xs)))
+abbrev pub listed : {X : Type 0} → Mark → Rule X → Rule (List X)
+listed separator p = several p (is_sign separator) (behind separator p)
 
 -- col = name | name "." name
 abbrev pub bare : Lexeme → Column
-bare name = record { table = None; name = name.text; at = name.at }
+bare word = record { table = None; name = word.text; at = word.at }
 
 abbrev pub qualified : Lexeme → Lexeme → Column
-qualified table name = record { table = Some table.text; name = name.text; at = table.at }
+qualified table word = record { table = Some table.text; name = word.text; at = table.at }
 
-abbrev pub IsColumn : Column → List Lexeme → Type 0
-IsColumn = Then IsName (λ first. Or (Then (IsMark mark.Dot) (λ _. Then IsName (λ name. Is (qualified first name)))) (Is (bare first)))
+unfoldable pub column : Rule Column
+column = chain name (λ first. either (is_sign mark.Dot) (behind mark.Dot (chain name (λ word. always (qualified first word)))) (always (bare first)))
 
 -- col | literal
-abbrev pub IsSide : Side → List Lexeme → Type 0
-IsSide = Or (Then IsColumn (λ c. Is (Col c))) (Then (One literal_in) (λ l. Is (Lit l)))
+unfoldable pub side : Rule Side
+side = either (is_sign mark.Name) (chain column (λ c. always (Col c))) (chain literal (λ l. always (Lit l)))
 
 -- cond = col op ( col | literal )
-abbrev pub condition : Column → CmpOp → Side → Condition
-condition left op right = record { left = left; op = op; right = right }
+abbrev pub make_condition : Column → CmpOp → Side → Condition
+make_condition left op right = record { left = left; op = op; right = right }
 
-abbrev pub IsCondition : Condition → List Lexeme → Type 0
-IsCondition = Then IsColumn (λ left. Then (One op_in) (λ op. Then IsSide (λ right. Is (condition left op right))))
+unfoldable pub condition : Rule Condition
+condition = chain column (λ left. chain op (λ o. chain side (λ right. always (make_condition left o right))))
 
 -- conds = cond { AND cond }
-abbrev pub AreConditions : List Condition → List Lexeme → Type 0
-AreConditions = Listed (mark.Keyword keyword.And) IsCondition
+unfoldable pub conditions : Rule (List Condition)
+conditions = listed (mark.Keyword keyword.And) condition
 
 -- agg = ( SUM | MIN | MAX ) "(" col ")" | COUNT "(" "*" ")"
-abbrev pub IsOverColumn : Item → List Lexeme → Type 0
-IsOverColumn = Then (One function_in) (λ f. Then (IsMark mark.Open) (λ _. Then IsColumn (λ c. Then (IsMark mark.Close) (λ _. Is (Aggregate f.func c f.at)))))
+unfoldable pub over_column : Rule Item
+over_column = chain function (λ f. behind mark.Open (chain column (λ c. behind mark.Close (always (Aggregate f.func c f.at)))))
 
-abbrev pub IsCount : Item → List Lexeme → Type 0
-IsCount = Then (IsKeyword keyword.Count) (λ word. Then (IsMark mark.Open) (λ _. Then (IsMark mark.Star) (λ _. Then (IsMark mark.Close) (λ _. Is (Count word.at)))))
+unfoldable pub count : Rule Item
+count = chain (reserved keyword.Count) (λ word. behind mark.Open (behind mark.Star (behind mark.Close (always (Count word.at)))))
 
-abbrev pub IsAggregate : Item → List Lexeme → Type 0
-IsAggregate = Or IsCount IsOverColumn
+unfoldable pub aggregate : Rule Item
+aggregate = either (is_reserved keyword.Count) count over_column
 
 -- item = col | agg
-abbrev pub IsItem : Item → List Lexeme → Type 0
-IsItem = Or (Then IsColumn (λ c. Is (Plain c))) IsAggregate
+unfoldable pub item : Rule Item
+item = either (is_sign mark.Name) (chain column (λ c. always (Plain c))) aggregate
+
+unfoldable pub items : Rule (List Item)
+items = listed mark.Comma item
 
 -- source = "," name | JOIN name ON conds
-abbrev pub source : Lexeme → List Condition → Source
-source name on = record { table = name.text; at = name.at; on = on }
+abbrev pub make_source : Lexeme → List Condition → Source
+make_source word on = record { table = word.text; at = word.at; on = on }
 
-abbrev pub IsFirstSource : Source → List Lexeme → Type 0
-IsFirstSource = Then IsName (λ name. Is (source name []))
+unfoldable pub first_source : Rule Source
+first_source = chain name (λ word. always (make_source word []))
 
-abbrev pub IsListed : Source → List Lexeme → Type 0
-IsListed = Then (IsMark mark.Comma) (λ _. IsFirstSource)
+unfoldable pub joined : Rule Source
+joined = chain (reserved keyword.Join) (λ _. chain name (λ word. chain (reserved keyword.On) (λ _. chain conditions (λ on. always (make_source word on)))))
 
-abbrev pub IsJoined : Source → List Lexeme → Type 0
-IsJoined = Then (IsKeyword keyword.Join) (λ _. Then IsName (λ name. Then (IsKeyword keyword.On) (λ _. Then AreConditions (λ on. Is (source name on)))))
-
-abbrev pub IsSource : Source → List Lexeme → Type 0
-IsSource = Or IsListed IsJoined
+unfoldable pub source : Rule Source
+source = either (is_sign mark.Comma) (behind mark.Comma first_source) joined
 
 -- name { source }
-abbrev pub AreSources : List Source → List Lexeme → Type 0
-AreSources = Then IsFirstSource (λ first. Then (Many IsSource) (λ more. Is (first ∷ more)))
+abbrev pub begins_source : Lexeme → Bool
+begins_source = is_one_of (mark.Comma ∷ mark.Keyword keyword.Join ∷ [])
+
+unfoldable pub sources : Rule (List Source)
+sources = several first_source begins_source source
 
 -- [ WHERE conds ]
-abbrev pub IsWhere : List Condition → List Lexeme → Type 0
-IsWhere = Or (Then (IsKeyword keyword.Where) (λ _. AreConditions)) (Is [])
+unfoldable pub filters : Rule (List Condition)
+filters = either (is_reserved keyword.Where) (chain (reserved keyword.Where) (λ _. conditions)) (always [])
 
 -- having = agg op literal
-abbrev pub having : Item → CmpOp → Literal → Having
-having item op literal = record { item = item; op = op; literal = literal }
+abbrev pub make_having : Item → CmpOp → Literal → Having
+make_having item op literal = record { item = item; op = op; literal = literal }
 
-abbrev pub IsHaving : Having → List Lexeme → Type 0
-IsHaving = Then IsAggregate (λ item. Then (One op_in) (λ op. Then (One literal_in) (λ literal. Is (having item op literal))))
+unfoldable pub having : Rule Having
+having = chain aggregate (λ i. chain op (λ o. chain literal (λ l. always (make_having i o l))))
 
 -- [ HAVING having { AND having } ]
-abbrev pub AreHavings : List Having → List Lexeme → Type 0
-AreHavings = Or (Then (IsKeyword keyword.Having) (λ _. Listed (mark.Keyword keyword.And) IsHaving)) (Is [])
+unfoldable pub having_list : Rule (List Having)
+having_list = listed (mark.Keyword keyword.And) having
+
+unfoldable pub havings : Rule (List Having)
+havings = either (is_reserved keyword.Having) (chain (reserved keyword.Having) (λ _. having_list)) (always [])
 
 -- [ GROUP BY col { "," col } [ HAVING having { AND having } ] ]
 pub record Grouping : Type 0 where
   pub group : List Column
   pub having : List Having
 
-abbrev pub grouping : List Column → List Having → Grouping
-grouping group having = record { group = group; having = having }
+abbrev pub make_grouping : List Column → List Having → Grouping
+make_grouping group having = record { group = group; having = having }
 
-abbrev pub IsGroupedBy : Grouping → List Lexeme → Type 0
-IsGroupedBy = Then (IsKeyword keyword.Group) (λ _. Then (IsKeyword keyword.By) (λ _. Then (Listed mark.Comma IsColumn) (λ group. Then AreHavings (λ having. Is (grouping group having)))))
+unfoldable pub group : Rule (List Column)
+group = listed mark.Comma column
 
-abbrev pub IsGrouping : Grouping → List Lexeme → Type 0
-IsGrouping = Or IsGroupedBy (Is (grouping [] []))
+unfoldable pub grouped_by : Rule Grouping
+grouped_by = chain (reserved keyword.Group) (λ _. chain (reserved keyword.By) (λ _. chain group (λ cs. chain havings (λ hs. always (make_grouping cs hs)))))
+
+unfoldable pub grouping : Rule Grouping
+grouping = either (is_reserved keyword.Group) grouped_by (always (make_grouping [] []))
 
 -- [ ";" ]
-abbrev pub IsEnd : Unit {0} → List Lexeme → Type 0
-IsEnd = Or (Then (IsMark mark.Semicolon) (λ _. Is tt)) (Is tt)
+unfoldable pub ending : Rule (Unit {0})
+ending = either (is_sign mark.Semicolon) (behind mark.Semicolon (always tt)) (always tt)
 
 -- query = SELECT item { "," item } FROM name { source } [ WHERE conds ] [ GROUP BY .. ] [ ";" ]
-abbrev pub query : List Item → List Source → List Condition → Grouping → Query
-query items sources conds groups =
+abbrev pub make_query : List Item → List Source → List Condition → Grouping → Query
+make_query items sources conds groups =
     record { items = items; sources = sources; conds = conds; group = groups.group; having = groups.having }
 
-abbrev pub IsTail : List Item → List Source → Query → List Lexeme → Type 0
-IsTail items sources = Then IsWhere (λ conds. Then IsGrouping (λ groups. Then IsEnd (λ _. Is (query items sources conds groups))))
+unfoldable pub tail : List Item → List Source → Rule Query
+tail is ss = chain filters (λ conds. chain grouping (λ groups. chain ending (λ _. always (make_query is ss conds groups))))
 
-pub record IsQuery (q : Query) (ts : List Lexeme) : Type 0 where
-  pub phrase : Then (IsKeyword keyword.Select) (λ _. Then (Listed mark.Comma IsItem) (λ items.
-      Then (IsKeyword keyword.From) (λ _. Then AreSources (λ sources. IsTail items sources)))) q ts
+unfoldable pub query : Rule Query
+query = chain (reserved keyword.Select) (λ _. chain items (λ is. chain (reserved keyword.From) (λ _. chain sources (λ ss. tail is ss))))
+
+-- the tokens spell this query
+abbrev pub IsQuery : Query → List Lexeme → Type 0
+IsQuery = query.spells

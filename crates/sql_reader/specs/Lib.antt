@@ -1,14 +1,16 @@
-pub mod Marks
-pub mod Phrases
-pub mod Syntax
-pub mod Grammar
+-- To be read first: `Reading` says what `read_query` promises, `Grammar` has the productions that it rests on, and `Law`
+-- says that reading by the grammar is right and unique. `Writable`, `Spelling` and `Placeless` say what `print_query` promises.
 pub mod Reading
-pub mod Readers
-pub mod QueryReaders
+pub mod Grammar
+pub mod Law
 pub mod Outcome
-pub mod Answers
 pub mod Codes
+pub mod Syntax
+pub mod Marks
+pub mod Rules
+pub mod Phrases
+pub mod Readers
 pub mod Writable
 pub mod Spelling
 pub mod Placeless
-pub mod PrintParts
+pub mod inside

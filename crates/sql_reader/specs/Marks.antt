@@ -1,4 +1,5 @@
 -- What a token is for the grammar. docs/FORMATS.md, "Query", lists keywords and symbols.
+use Rattle.std.specs.List.{list_any}
 use Rattle.std.specs.Prelude.{ℕ, ◌+◌, ◌==◌, Bool, List, codes, bytes_eq, Option, Some, None, if◌then◌else◌}
 use Rattle.word_forms.specs.declared.keyword.Keyword.{Keyword}
 use Rattle.word_forms.specs.declared.keyword.Keyword.TheVariants as keyword
@@ -81,3 +82,7 @@ mark_number (mark.Keyword k) = 15 + keyword_number k
 -- whether a token has this mark
 abbrev pub is_mark : Mark → Lexeme → Bool
 is_mark k x = mark_number (mark_of x) == mark_number k
+
+-- whether it has one of these marks
+abbrev pub is_one_of : List Mark → Lexeme → Bool
+is_one_of marks x = list_any (λ k. is_mark k x) marks

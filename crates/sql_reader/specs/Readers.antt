@@ -1,5 +1,5 @@
 -- Readers: functions that take a phrase from the front of a list of tokens, deciding by one token of look-ahead, and the
--- ways to put them together. They mirror the words of `Phrases`, and know no query.
+-- ways to put them together. They know no query.
 use Rattle.std.specs.Prelude.{ℕ, zero, suc, Bool, false, List, [], ◌∷◌, length, Option, Some, None, if◌then◌else◌}
 use Rattle.sql_lexer.specs.Lexing.{Lexeme}
 

@@ -1,7 +1,8 @@
 -- What a text reads as: its one query, or its first refusal. docs/FORMATS.md, "Query", tells it in prose.
 use Rattle.std.specs.Prelude.{◌≡◌, ℕ, Bool, ◌&&◌, List, [], ◌∷◌, ◌++◌, length, find, is_none, Option, Some, None, Result, Ok, Err}
 use Rattle.word_forms.specs.Integers.{integer_of}
-use Rattle.sql_lexer.specs.declared.refusal.LexNo.TheVariants as lexing
+use Rattle.mq_base.specs.Refusal.{refusal}
+use Rattle.sql_lexer.specs.Codes.{bad_char, open_text}
 use Rattle.sql_lexer.specs.Lexing.{Lexeme, lexed}
 use Rattle.sql_reader.specs.declared.mark.Mark.TheVariants as mark
 use Rattle.sql_reader.specs.declared.raw.RawQuery.{RawQuery}
@@ -69,8 +70,8 @@ pub record IsOutOfRange (text : List ℕ) (at : ℕ) : Type 0 where
 -- the answer is what the text reads as. Want of memory is tied to no cause
 abbrev pub IsRead : List ℕ → Result RawQuery SqlNo → Type 0
 IsRead text (Ok q) = IsQueryOf text (query_of q)
-IsRead text (Err (BadChar at)) = lexed text ≡ Err (lexing.BadChar at)
-IsRead text (Err (OpenText at)) = lexed text ≡ Err (lexing.OpenText at)
+IsRead text (Err (BadChar at)) = lexed text ≡ Err (refusal bad_char at 0)
+IsRead text (Err (OpenText at)) = lexed text ≡ Err (refusal open_text at 0)
 IsRead text (Err (Unexpected at)) = IsUnexpected text at
 IsRead text (Err (NumberRange at)) = IsOutOfRange text at
 IsRead text (Err NoMemory) = Unit {0}

@@ -1,10 +1,11 @@
 ghost use Rattle.std.specs.Prelude.{◌≡◌, map};
 ghost use Rattle.word_forms.specs.declared.keyword.Keyword.TheVariants as keyword;
 ghost use Rattle.sql_reader.specs.declared.mark.Mark.TheVariants as mark;
-ghost use Rattle.sql_reader.specs.Syntax.{column_of, condition_of, side_of};
-ghost use Rattle.sql_reader.specs.QueryReaders.{behind_at, column_at, condition_at, conditions_at, side_at};
-ghost use Rattle.sql_reader.specs.Answers.{AreWhole, Gives, left};
+ghost use Rattle.sql_reader.specs.Syntax.{Condition, column_of, condition_of, side_of};
+ghost use Rattle.sql_reader.specs.Grammar as grammar;
+ghost use Rattle.sql_reader.specs.inside.Answers.{AreWhole, Gives, left};
 
+use crate::lists::{Phrase, listed};
 use crate::mark::Mark;
 use crate::raw::{RawCol, RawCond, RawSide};
 use crate::stop::Stop;
@@ -15,9 +16,9 @@ use std::alloc::Global;
 use word_forms::Keyword;
 
 /// A column: a name, or a table's name, a dot and a name.
-#[tactic(auto, unfolding(crate::specs::QueryReaders::column_at))]
+#[tactic(auto, unfolding(crate::specs::Grammar::column))]
 pub fn column<'a>(tokens: &[Token<'a>], at: usize) -> Result<(RawCol<'a>, usize), Stop>
-    ensures { Gives column_of tokens.now result (column_at (left tokens.now at)) }
+    ensures { Gives column_of tokens.now result (grammar.column.read (left tokens.now at)) }
 {
     let (first, after) = token(tokens, at, Mark::Name)?;
     if !next_is(tokens, after, &[Mark::Dot]) {
@@ -43,10 +44,10 @@ pub fn column<'a>(tokens: &[Token<'a>], at: usize) -> Result<(RawCol<'a>, usize)
 }
 
 // The right side of a comparison: a column or a literal.
-#[tactic(auto, unfolding(crate::specs::QueryReaders::side_at))]
+#[tactic(auto, unfolding(crate::specs::Grammar::side))]
 fn side<'a>(tokens: &[Token<'a>], at: usize) -> Result<(RawSide<'a>, usize), Stop>
     requires { AreWhole tokens.now }
-    ensures { Gives side_of tokens.now result (side_at (left tokens.now at)) }
+    ensures { Gives side_of tokens.now result (grammar.side.read (left tokens.now at)) }
 {
     if next_is(tokens, at, &[Mark::Name]) {
         let (col, after) = column(tokens, at)?;
@@ -57,10 +58,10 @@ fn side<'a>(tokens: &[Token<'a>], at: usize) -> Result<(RawSide<'a>, usize), Sto
 }
 
 // A condition: a column, a comparison, and a column or a literal.
-#[tactic(auto, unfolding(crate::specs::QueryReaders::condition_at))]
+#[tactic(auto, unfolding(crate::specs::Grammar::condition))]
 fn condition<'a>(tokens: &[Token<'a>], at: usize) -> Result<(RawCond<'a>, usize), Stop>
     requires { AreWhole tokens.now }
-    ensures { Gives condition_of tokens.now result (condition_at (left tokens.now at)) }
+    ensures { Gives condition_of tokens.now result (grammar.condition.read (left tokens.now at)) }
 {
     let (left, after) = column(tokens, at)?;
     let (op, after) = op(tokens, after)?;
@@ -68,31 +69,29 @@ fn condition<'a>(tokens: &[Token<'a>], at: usize) -> Result<(RawCond<'a>, usize)
     Ok((RawCond { left, op, right }, after))
 }
 
-// AND and a condition.
-fn and_condition<'a>(tokens: &[Token<'a>], at: usize) -> Result<(RawCond<'a>, usize), Stop>
-    requires { AreWhole tokens.now }
-    ensures { Gives condition_of tokens.now result (behind_at (mark.Keyword keyword.And) condition_at (left tokens.now at)) }
-{
-    let (_, after) = token(tokens, at, Mark::Keyword(Keyword::And))?;
-    condition(tokens, after)
+impl<'a> Phrase<'a> for RawCond<'a> {
+    ghost Plain = { Condition };
+
+    ghost plain = { condition_of };
+
+    ghost further = { grammar.behind (mark.Keyword keyword.And) grammar.condition };
+
+    fn next(_alloc: Global, tokens: &[Token<'a>], at: usize) -> Result<(RawCond<'a>, usize), Stop> {
+        let (_, after) = token(tokens, at, Mark::Keyword(Keyword::And))?;
+        condition(tokens, after)
+    }
 }
 
 /// Conditions with AND between them.
+#[tactic(auto, unfolding(crate::specs::Grammar::conditions))]
 pub fn conditions<'a>(
     alloc: Global,
     tokens: &[Token<'a>],
     at: usize,
 ) -> Result<(Seq<RawCond<'a>>, usize), Stop>
     requires { AreWhole tokens.now }
-    ensures { Gives (map condition_of) tokens.now result (conditions_at (left tokens.now at)) }
+    ensures { Gives (map condition_of) tokens.now result (grammar.conditions.read (left tokens.now at)) }
 {
-    let (first, mut after) = condition(tokens, at)?;
-    let mut found = Seq::new(alloc);
-    found.push(first)?;
-    'each: while next_is(tokens, after, &[Mark::Keyword(Keyword::And)]) {
-        let (next, behind) = and_condition(tokens, after)?;
-        found.push(next)?;
-        after = behind;
-    }
-    Ok((found, after))
+    let (first, after) = condition(tokens, at)?;
+    listed(alloc, tokens, first, after, &[Mark::Keyword(Keyword::And)])
 }

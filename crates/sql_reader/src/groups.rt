@@ -1,12 +1,13 @@
 ghost use Rattle.std.specs.Prelude.{◌≡◌, map};
 ghost use Rattle.word_forms.specs.declared.keyword.Keyword.TheVariants as keyword;
 ghost use Rattle.sql_reader.specs.declared.mark.Mark.TheVariants as mark;
-ghost use Rattle.sql_reader.specs.Syntax.{column_of, having_of};
-ghost use Rattle.sql_reader.specs.QueryReaders.{behind_at, column_at, group_at, grouped_by_at, grouping_at, having_at, having_list_at, havings_at};
-ghost use Rattle.sql_reader.specs.Answers.{AreWhole, Gives, grouping_of, left};
+ghost use Rattle.sql_reader.specs.Syntax.{Column, Having, column_of, having_of};
+ghost use Rattle.sql_reader.specs.Grammar as grammar;
+ghost use Rattle.sql_reader.specs.inside.Answers.{AreWhole, Gives, grouping_of, left};
 
 use crate::conditions::column;
 use crate::items::aggregate;
+use crate::lists::{Phrase, listed};
 use crate::mark::Mark;
 use crate::raw::{RawCol, RawHaving};
 use crate::stop::Stop;
@@ -26,10 +27,10 @@ pub struct Groups<'a> {
 }
 
 // A condition of HAVING: an aggregate, a comparison and a literal.
-#[tactic(auto, unfolding(crate::specs::QueryReaders::having_at))]
+#[tactic(auto, unfolding(crate::specs::Grammar::having))]
 fn having<'a>(tokens: &[Token<'a>], at: usize) -> Result<(RawHaving<'a>, usize), Stop>
     requires { AreWhole tokens.now }
-    ensures { Gives having_of tokens.now result (having_at (left tokens.now at)) }
+    ensures { Gives having_of tokens.now result (grammar.having.read (left tokens.now at)) }
 {
     let (item, after) = aggregate(tokens, at)?;
     let (op, after) = op(tokens, after)?;
@@ -37,105 +38,81 @@ fn having<'a>(tokens: &[Token<'a>], at: usize) -> Result<(RawHaving<'a>, usize),
     Ok((RawHaving { item, op, lit }, after))
 }
 
-// AND and a condition of HAVING.
-fn and_having<'a>(tokens: &[Token<'a>], at: usize) -> Result<(RawHaving<'a>, usize), Stop>
-    requires { AreWhole tokens.now }
-    ensures { Gives having_of tokens.now result (behind_at (mark.Keyword keyword.And) having_at (left tokens.now at)) }
-{
-    let (_, after) = token(tokens, at, Mark::Keyword(Keyword::And))?;
-    having(tokens, after)
-}
+impl<'a> Phrase<'a> for RawHaving<'a> {
+    ghost Plain = { Having };
 
-// Conditions of HAVING with AND between them.
-fn having_list<'a>(
-    alloc: Global,
-    tokens: &[Token<'a>],
-    at: usize,
-) -> Result<(Seq<RawHaving<'a>>, usize), Stop>
-    requires { AreWhole tokens.now }
-    ensures { Gives (map having_of) tokens.now result (having_list_at (left tokens.now at)) }
-{
-    let (first, mut after) = having(tokens, at)?;
-    let mut found = Seq::new(alloc);
-    found.push(first)?;
-    'each: while next_is(tokens, after, &[Mark::Keyword(Keyword::And)]) {
-        let (next, behind) = and_having(tokens, after)?;
-        found.push(next)?;
-        after = behind;
+    ghost plain = { having_of };
+
+    ghost further = { grammar.behind (mark.Keyword keyword.And) grammar.having };
+
+    fn next(
+        _alloc: Global,
+        tokens: &[Token<'a>],
+        at: usize,
+    ) -> Result<(RawHaving<'a>, usize), Stop> {
+        let (_, after) = token(tokens, at, Mark::Keyword(Keyword::And))?;
+        having(tokens, after)
     }
-    Ok((found, after))
 }
 
 // The conditions of HAVING, if it stands there.
-#[tactic(auto, unfolding(crate::specs::QueryReaders::havings_at))]
+#[tactic(auto, unfolding(crate::specs::Grammar::havings, crate::specs::Grammar::having_list))]
 fn havings<'a>(
     alloc: Global,
     tokens: &[Token<'a>],
     at: usize,
 ) -> Result<(Seq<RawHaving<'a>>, usize), Stop>
     requires { AreWhole tokens.now }
-    ensures { Gives (map having_of) tokens.now result (havings_at (left tokens.now at)) }
+    ensures { Gives (map having_of) tokens.now result (grammar.havings.read (left tokens.now at)) }
 {
     if !next_is(tokens, at, &[Mark::Keyword(Keyword::Having)]) {
         return Ok((Seq::new(alloc), at));
     }
     let (_, after) = token(tokens, at, Mark::Keyword(Keyword::Having))?;
-    having_list(alloc, tokens, after)
+    let (first, after) = having(tokens, after)?;
+    listed(alloc, tokens, first, after, &[Mark::Keyword(Keyword::And)])
 }
 
-// A comma and a column.
-fn comma_column<'a>(tokens: &[Token<'a>], at: usize) -> Result<(RawCol<'a>, usize), Stop>
-    ensures { Gives column_of tokens.now result (behind_at mark.Comma column_at (left tokens.now at)) }
-{
-    let (_, after) = token(tokens, at, Mark::Comma)?;
-    column(tokens, after)
-}
+impl<'a> Phrase<'a> for RawCol<'a> {
+    ghost Plain = { Column };
 
-// Columns with commas between them.
-fn group<'a>(
-    alloc: Global,
-    tokens: &[Token<'a>],
-    at: usize,
-) -> Result<(Seq<RawCol<'a>>, usize), Stop>
-    ensures { Gives (map column_of) tokens.now result (group_at (left tokens.now at)) }
-{
-    let (first, mut after) = column(tokens, at)?;
-    let mut found = Seq::new(alloc);
-    found.push(first)?;
-    'each: while next_is(tokens, after, &[Mark::Comma]) {
-        let (next, behind) = comma_column(tokens, after)?;
-        found.push(next)?;
-        after = behind;
+    ghost plain = { column_of };
+
+    ghost further = { grammar.behind mark.Comma grammar.column };
+
+    fn next(_alloc: Global, tokens: &[Token<'a>], at: usize) -> Result<(RawCol<'a>, usize), Stop> {
+        let (_, after) = token(tokens, at, Mark::Comma)?;
+        column(tokens, after)
     }
-    Ok((found, after))
 }
 
 // GROUP BY, columns, and HAVING if it stands there.
-#[tactic(auto, unfolding(crate::specs::QueryReaders::grouped_by_at))]
+#[tactic(auto, unfolding(crate::specs::Grammar::grouped_by, crate::specs::Grammar::group))]
 fn grouped_by<'a>(
     alloc: Global,
     tokens: &[Token<'a>],
     at: usize,
 ) -> Result<(Groups<'a>, usize), Stop>
     requires { AreWhole tokens.now }
-    ensures { Gives grouping_of tokens.now result (grouped_by_at (left tokens.now at)) }
+    ensures { Gives grouping_of tokens.now result (grammar.grouped_by.read (left tokens.now at)) }
 {
     let (_, after) = token(tokens, at, Mark::Keyword(Keyword::Group))?;
     let (_, after) = token(tokens, after, Mark::Keyword(Keyword::By))?;
-    let (group, after) = group(alloc, tokens, after)?;
+    let (first, after) = column(tokens, after)?;
+    let (group, after) = listed(alloc, tokens, first, after, &[Mark::Comma])?;
     let (having, after) = havings(alloc, tokens, after)?;
     Ok((Groups { group, having }, after))
 }
 
 /// GROUP BY with what belongs to it, if it stands there.
-#[tactic(auto, unfolding(crate::specs::QueryReaders::grouping_at))]
+#[tactic(auto, unfolding(crate::specs::Grammar::grouping))]
 pub fn grouping<'a>(
     alloc: Global,
     tokens: &[Token<'a>],
     at: usize,
 ) -> Result<(Groups<'a>, usize), Stop>
     requires { AreWhole tokens.now }
-    ensures { Gives grouping_of tokens.now result (grouping_at (left tokens.now at)) }
+    ensures { Gives grouping_of tokens.now result (grammar.grouping.read (left tokens.now at)) }
 {
     if next_is(tokens, at, &[Mark::Keyword(Keyword::Group)]) {
         return grouped_by(alloc, tokens, at);

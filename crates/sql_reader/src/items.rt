@@ -1,10 +1,11 @@
 ghost use Rattle.std.specs.Prelude.{◌≡◌, map};
 ghost use Rattle.sql_reader.specs.declared.mark.Mark.TheVariants as mark;
-ghost use Rattle.sql_reader.specs.Syntax.{item_of};
-ghost use Rattle.sql_reader.specs.QueryReaders.{aggregate_at, behind_at, count_at, item_at, items_at, over_column_at};
-ghost use Rattle.sql_reader.specs.Answers.{Gives, left};
+ghost use Rattle.sql_reader.specs.Syntax.{Item, item_of};
+ghost use Rattle.sql_reader.specs.Grammar as grammar;
+ghost use Rattle.sql_reader.specs.inside.Answers.{AreWhole, Gives, left};
 
 use crate::conditions::column;
+use crate::lists::{Phrase, listed};
 use crate::mark::Mark;
 use crate::raw::RawItem;
 use crate::stop::Stop;
@@ -15,9 +16,9 @@ use std::alloc::Global;
 use word_forms::Keyword;
 
 // SUM, MIN or MAX over a column.
-#[tactic(auto, unfolding(crate::specs::QueryReaders::over_column_at))]
+#[tactic(auto, unfolding(crate::specs::Grammar::over_column))]
 fn over_column<'a>(tokens: &[Token<'a>], at: usize) -> Result<(RawItem<'a>, usize), Stop>
-    ensures { Gives item_of tokens.now result (over_column_at (left tokens.now at)) }
+    ensures { Gives item_of tokens.now result (grammar.over_column.read (left tokens.now at)) }
 {
     let (word, after) = function(tokens, at)?;
     let (_, after) = token(tokens, after, Mark::Open)?;
@@ -34,9 +35,9 @@ fn over_column<'a>(tokens: &[Token<'a>], at: usize) -> Result<(RawItem<'a>, usiz
 }
 
 // `COUNT(*)`.
-#[tactic(auto, unfolding(crate::specs::QueryReaders::count_at))]
+#[tactic(auto, unfolding(crate::specs::Grammar::count))]
 fn count<'a>(tokens: &[Token<'a>], at: usize) -> Result<(RawItem<'a>, usize), Stop>
-    ensures { Gives item_of tokens.now result (count_at (left tokens.now at)) }
+    ensures { Gives item_of tokens.now result (grammar.count.read (left tokens.now at)) }
 {
     let (word, after) = token(tokens, at, Mark::Keyword(Keyword::Count))?;
     let (_, after) = token(tokens, after, Mark::Open)?;
@@ -46,9 +47,9 @@ fn count<'a>(tokens: &[Token<'a>], at: usize) -> Result<(RawItem<'a>, usize), St
 }
 
 /// A function over a column, or the count.
-#[tactic(auto, unfolding(crate::specs::QueryReaders::aggregate_at))]
+#[tactic(auto, unfolding(crate::specs::Grammar::aggregate))]
 pub fn aggregate<'a>(tokens: &[Token<'a>], at: usize) -> Result<(RawItem<'a>, usize), Stop>
-    ensures { Gives item_of tokens.now result (aggregate_at (left tokens.now at)) }
+    ensures { Gives item_of tokens.now result (grammar.aggregate.read (left tokens.now at)) }
 {
     if next_is(tokens, at, &[Mark::Keyword(Keyword::Count)]) {
         count(tokens, at)
@@ -58,9 +59,9 @@ pub fn aggregate<'a>(tokens: &[Token<'a>], at: usize) -> Result<(RawItem<'a>, us
 }
 
 // An item of a select list.
-#[tactic(auto, unfolding(crate::specs::QueryReaders::item_at))]
+#[tactic(auto, unfolding(crate::specs::Grammar::item))]
 fn item<'a>(tokens: &[Token<'a>], at: usize) -> Result<(RawItem<'a>, usize), Stop>
-    ensures { Gives item_of tokens.now result (item_at (left tokens.now at)) }
+    ensures { Gives item_of tokens.now result (grammar.item.read (left tokens.now at)) }
 {
     if !next_is(tokens, at, &[Mark::Name]) {
         return aggregate(tokens, at);
@@ -69,29 +70,29 @@ fn item<'a>(tokens: &[Token<'a>], at: usize) -> Result<(RawItem<'a>, usize), Sto
     Ok((RawItem::Col(col), after))
 }
 
-// A comma and an item.
-fn comma_item<'a>(tokens: &[Token<'a>], at: usize) -> Result<(RawItem<'a>, usize), Stop>
-    ensures { Gives item_of tokens.now result (behind_at mark.Comma item_at (left tokens.now at)) }
-{
-    let (_, after) = token(tokens, at, Mark::Comma)?;
-    item(tokens, after)
+impl<'a> Phrase<'a> for RawItem<'a> {
+    ghost Plain = { Item };
+
+    ghost plain = { item_of };
+
+    ghost further = { grammar.behind mark.Comma grammar.item };
+
+    fn next(_alloc: Global, tokens: &[Token<'a>], at: usize) -> Result<(RawItem<'a>, usize), Stop> {
+        let (_, after) = token(tokens, at, Mark::Comma)?;
+        item(tokens, after)
+    }
 }
 
-/// A select list.
+/// The items of a select list.
+#[tactic(auto, unfolding(crate::specs::Grammar::items))]
 pub fn items<'a>(
     alloc: Global,
     tokens: &[Token<'a>],
     at: usize,
 ) -> Result<(Seq<RawItem<'a>>, usize), Stop>
-    ensures { Gives (map item_of) tokens.now result (items_at (left tokens.now at)) }
+    requires { AreWhole tokens.now }
+    ensures { Gives (map item_of) tokens.now result (grammar.items.read (left tokens.now at)) }
 {
-    let (first, mut after) = item(tokens, at)?;
-    let mut found = Seq::new(alloc);
-    found.push(first)?;
-    'each: while next_is(tokens, after, &[Mark::Comma]) {
-        let (next, behind) = comma_item(tokens, after)?;
-        found.push(next)?;
-        after = behind;
-    }
-    Ok((found, after))
+    let (first, after) = item(tokens, at)?;
+    listed(alloc, tokens, first, after, &[Mark::Comma])
 }

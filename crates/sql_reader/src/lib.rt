@@ -5,10 +5,10 @@
 mod conditions;
 mod groups;
 mod items;
+mod law;
+mod lists;
 mod mark;
 mod print;
-#[cfg(test)]
-mod print_tests;
 mod raw;
 mod reader;
 mod refusal;
@@ -16,10 +16,8 @@ mod sources;
 mod stop;
 mod terminals;
 
+pub use law::grammar_law;
 pub use print::print_query;
 pub use raw::{RawCol, RawCond, RawHaving, RawItem, RawLit, RawQuery, RawSide, RawSource};
 pub use reader::read_query;
 pub use refusal::SqlNo;
-
-#[cfg(test)]
-mod tests;

@@ -7,7 +7,7 @@ ghost use Rattle.sql_reader.specs.Syntax as syntax;
 ghost use Rattle.sql_reader.specs.Spelling as spelling;
 ghost use Rattle.sql_reader.specs.Writable.{IsWritable};
 ghost use Rattle.sql_reader.specs.Placeless.{ReadsBack};
-ghost use Rattle.sql_reader.specs.PrintParts.{followed, clause_text, IsInRange, IsSideInRange, IsConditionInRange, IsSourceInRange, IsHavingInRange, IsQueryInRange};
+ghost use Rattle.sql_reader.specs.inside.PrintParts.{followed, clause_text, IsInRange, IsSideInRange, IsConditionInRange, IsSourceInRange, IsHavingInRange, IsQueryInRange};
 
 use crate::raw::{RawCol, RawCond, RawHaving, RawItem, RawLit, RawQuery, RawSide, RawSource};
 use mq_base::{Agg, CmpOp, NoMemory, Text};
@@ -257,9 +257,8 @@ impl Part for RawSource<'_> {
     }
 }
 
-// Writes the tables.
+// Writes the tables: nothing where there is none.
 fn put_sources(out: &mut String, sources: &[RawSource<'_>]) -> Result<(), NoMemory>
-    requires { 1 ≤ length sources.now }
     ensures written { OnOk result (string_bytes out.new
         ≡ string_bytes out.old ++ spelling.sources_text (map source_of sources.now)) }
     ensures range { OnOk result (All (λ s. IsSourceInRange (source_of s)) (drop 1 sources.now)) }

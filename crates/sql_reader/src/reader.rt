@@ -1,11 +1,14 @@
 ghost use Rattle.std.specs.Prelude.{◌≡◌, ◌≤◌, find, length, map, option_map, IfOk};
+ghost use Rattle.std.specs.Result.{result_map_both};
+ghost use Rattle.mq_base.specs.Refusal.{Answers};
 ghost use Rattle.sql_lexer.specs.Lexing.{lexeme};
+ghost use Rattle.sql_reader.specs.Codes.{query_refusal};
 ghost use Rattle.sql_reader.specs.Syntax.{query_of};
 ghost use Rattle.sql_reader.specs.Reading.{IsRead, is_wide};
-ghost use Rattle.sql_reader.specs.QueryReaders.{end_at, query_at};
-ghost use Rattle.sql_reader.specs.Outcome.{Reads, query_outcome, read_outcome, wide_place};
+ghost use Rattle.sql_reader.specs.Grammar as grammar;
+ghost use Rattle.sql_reader.specs.Outcome.{query_outcome, read_outcome, wide_place};
 ghost use Rattle.sql_reader.specs.Writable.{IsWritable};
-ghost use Rattle.sql_reader.specs.Answers.{AreWhole, Gives, left};
+ghost use Rattle.sql_reader.specs.inside.Answers.{AreWhole, Gives, left};
 
 use crate::groups::grouping;
 use crate::items::items;
@@ -20,9 +23,9 @@ use std::alloc::Global;
 use word_forms::{Keyword, integer};
 
 // The semicolon at the end, if it stands there.
-#[tactic(auto, unfolding(crate::specs::QueryReaders::end_at))]
+#[tactic(auto, unfolding(crate::specs::Grammar::ending))]
 fn end(tokens: &[Token<'_>], at: usize) -> Result<((), usize), Stop>
-    ensures { Gives (λ _. tt) tokens.now result (end_at (left tokens.now at)) }
+    ensures { Gives (λ _. tt) tokens.now result (grammar.ending.read (left tokens.now at)) }
 {
     if !next_is(tokens, at, &[Mark::Semicolon]) {
         return Ok(((), at));
@@ -32,10 +35,10 @@ fn end(tokens: &[Token<'_>], at: usize) -> Result<((), usize), Stop>
 }
 
 // A query, and the place behind it.
-#[tactic(auto, unfolding(crate::specs::QueryReaders::query_at, crate::specs::QueryReaders::tail_at))]
+#[tactic(auto, unfolding(crate::specs::Grammar::query, crate::specs::Grammar::tail))]
 fn query<'a>(alloc: Global, tokens: &[Token<'a>], at: usize) -> Result<(RawQuery<'a>, usize), Stop>
     requires { AreWhole tokens.now }
-    ensures { Gives query_of tokens.now result (query_at (left tokens.now at)) }
+    ensures { Gives query_of tokens.now result (grammar.query.read (left tokens.now at)) }
 {
     let (_, after) = token(tokens, at, Mark::Keyword(Keyword::Select))?;
     let (items, after) = items(alloc, tokens, after)?;
@@ -83,7 +86,7 @@ fn wide_place(tokens: &[Token<'_>]) -> Option<u32>
 // What the tokens of a text that ends at this place read as.
 fn read_tokens<'a>(alloc: Global, tokens: &[Token<'a>], end: u32) -> Result<RawQuery<'a>, SqlNo>
     requires { AreWhole tokens.now }
-    ensures { Reads result (read_outcome end (wide_place (map lexeme tokens.now)) (query_at (map lexeme tokens.now))) }
+    ensures { Answers query_refusal (result_map_both query_of (λ e. e) result) (read_outcome end (wide_place (map lexeme tokens.now)) (grammar.query.read (map lexeme tokens.now))) }
 {
     let (found, after) = match query(alloc, tokens, 0) {
         Ok(read) => read,
@@ -110,7 +113,7 @@ fn read_tokens<'a>(alloc: Global, tokens: &[Token<'a>], end: u32) -> Result<RawQ
 /// `NumberRange` comes last, at the first number outside `i64`. `NoMemory` may stand in place of any other answer.
 pub fn read_query(alloc: Global, text: &str) -> Result<RawQuery<'_>, SqlNo>
     requires { length text.now ≤ 67108864 }
-    ensures read { Reads result (query_outcome text.now) }
+    ensures read { Answers query_refusal (result_map_both query_of (λ e. e) result) (query_outcome text.now) }
     ensures grammar { IsRead text.now result }
     ensures writable { IfOk result (λ q. IsWritable (query_of q)) }
 {

@@ -1,9 +1,11 @@
 ghost use Rattle.std.specs.Prelude.{◌≡◌};
-ghost use Rattle.sql_reader.specs.Codes.{number_of};
-ghost use Rattle.sql_reader.specs.Outcome.{lexical};
+ghost use Rattle.sql_lexer.specs.Codes.{lexical_refusal};
+ghost use Rattle.sql_reader.specs.Codes.{query_refusal};
 ghost use Rattle.sql_reader.specs.declared.refusal.SqlNo.TheVariants as refusal;
 
+use mq_base::{Refusal, Refusing};
 use sql_lexer::LexNo;
+use sql_lexer::codes::{BAD_CHAR, NUMBER_RANGE, OPEN_TEXT, UNEXPECTED};
 use std::alloc::{AllocError, AllocFailed};
 use std::error::Error;
 use std::fmt;
@@ -37,18 +39,22 @@ pub enum SqlNo {
     NoMemory,
 }
 
-impl SqlNo {
-    /// The number of the refusal: 1 to 4 in the order above, and 0 for want of memory.
-    pub fn number(&self) -> u16
-        ensures { result ≡ number_of self.now }
-    {
-        match self {
-            SqlNo::BadChar { .. } => 1,
-            SqlNo::OpenText { .. } => 2,
-            SqlNo::Unexpected { .. } => 3,
-            SqlNo::NumberRange { .. } => 4,
-            SqlNo::NoMemory => 0,
-        }
+impl Refusing for SqlNo {
+    ghost told = { query_refusal };
+
+    fn refusal(&self) -> Option<Refusal> {
+        let (code, at) = match self {
+            SqlNo::BadChar { at } => (BAD_CHAR, *at),
+            SqlNo::OpenText { at } => (OPEN_TEXT, *at),
+            SqlNo::Unexpected { at } => (UNEXPECTED, *at),
+            SqlNo::NumberRange { at } => (NUMBER_RANGE, *at),
+            SqlNo::NoMemory => return None,
+        };
+        Some(Refusal {
+            code,
+            at: u64::from(at),
+            item: 0,
+        })
     }
 }
 
@@ -91,7 +97,7 @@ impl From<mq_base::NoMemory> for SqlNo {
 }
 
 impl From<LexNo> for SqlNo {
-    ghost from_gives = { λ refused e. e ≡ lexical refused };
+    ghost from_gives = { λ lexical e. query_refusal e ≡ lexical_refusal lexical };
 
     fn from(refused: LexNo) -> SqlNo {
         match refused {

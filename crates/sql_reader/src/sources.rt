@@ -1,10 +1,11 @@
 ghost use Rattle.std.specs.Prelude.{◌≡◌, map};
 ghost use Rattle.sql_reader.specs.declared.mark.Mark.TheVariants as mark;
-ghost use Rattle.sql_reader.specs.Syntax.{condition_of, source_of};
-ghost use Rattle.sql_reader.specs.QueryReaders.{behind_at, first_source_at, joined_at, source_at, sources_at, where_at};
-ghost use Rattle.sql_reader.specs.Answers.{AreWhole, Gives, left};
+ghost use Rattle.sql_reader.specs.Syntax.{Source, condition_of, source_of};
+ghost use Rattle.sql_reader.specs.Grammar as grammar;
+ghost use Rattle.sql_reader.specs.inside.Answers.{AreWhole, Gives, left};
 
 use crate::conditions::conditions;
+use crate::lists::{Phrase, listed};
 use crate::mark::Mark;
 use crate::raw::{RawCond, RawSource};
 use crate::stop::Stop;
@@ -15,13 +16,13 @@ use std::alloc::Global;
 use word_forms::Keyword;
 
 // A table's name, with no conditions.
-#[tactic(auto, unfolding(crate::specs::QueryReaders::first_source_at))]
+#[tactic(auto, unfolding(crate::specs::Grammar::first_source))]
 fn first_source<'a>(
     alloc: Global,
     tokens: &[Token<'a>],
     at: usize,
 ) -> Result<(RawSource<'a>, usize), Stop>
-    ensures { Gives source_of tokens.now result (first_source_at (left tokens.now at)) }
+    ensures { Gives source_of tokens.now result (grammar.first_source.read (left tokens.now at)) }
 {
     let (name, after) = token(tokens, at, Mark::Name)?;
     Ok((
@@ -35,26 +36,26 @@ fn first_source<'a>(
 }
 
 // A comma and a table's name.
-fn listed<'a>(
+fn behind_comma<'a>(
     alloc: Global,
     tokens: &[Token<'a>],
     at: usize,
 ) -> Result<(RawSource<'a>, usize), Stop>
-    ensures { Gives source_of tokens.now result (behind_at mark.Comma first_source_at (left tokens.now at)) }
+    ensures { Gives source_of tokens.now result ((grammar.behind mark.Comma grammar.first_source).read (left tokens.now at)) }
 {
     let (_, after) = token(tokens, at, Mark::Comma)?;
     first_source(alloc, tokens, after)
 }
 
 // JOIN, a table's name, ON and conditions.
-#[tactic(auto, unfolding(crate::specs::QueryReaders::joined_at))]
+#[tactic(auto, unfolding(crate::specs::Grammar::joined))]
 fn joined<'a>(
     alloc: Global,
     tokens: &[Token<'a>],
     at: usize,
 ) -> Result<(RawSource<'a>, usize), Stop>
     requires { AreWhole tokens.now }
-    ensures { Gives source_of tokens.now result (joined_at (left tokens.now at)) }
+    ensures { Gives source_of tokens.now result (grammar.joined.read (left tokens.now at)) }
 {
     let (_, after) = token(tokens, at, Mark::Keyword(Keyword::Join))?;
     let (name, after) = token(tokens, after, Mark::Name)?;
@@ -71,51 +72,67 @@ fn joined<'a>(
 }
 
 // A source behind the first.
-#[tactic(auto, unfolding(crate::specs::QueryReaders::source_at))]
+#[tactic(auto, unfolding(crate::specs::Grammar::source))]
 fn source<'a>(
     alloc: Global,
     tokens: &[Token<'a>],
     at: usize,
 ) -> Result<(RawSource<'a>, usize), Stop>
     requires { AreWhole tokens.now }
-    ensures { Gives source_of tokens.now result (source_at (left tokens.now at)) }
+    ensures { Gives source_of tokens.now result (grammar.source.read (left tokens.now at)) }
 {
     if next_is(tokens, at, &[Mark::Comma]) {
-        listed(alloc, tokens, at)
+        behind_comma(alloc, tokens, at)
     } else {
         joined(alloc, tokens, at)
     }
 }
 
+impl<'a> Phrase<'a> for RawSource<'a> {
+    ghost Plain = { Source };
+
+    ghost plain = { source_of };
+
+    ghost further = { grammar.source };
+
+    fn next(
+        alloc: Global,
+        tokens: &[Token<'a>],
+        at: usize,
+    ) -> Result<(RawSource<'a>, usize), Stop> {
+        source(alloc, tokens, at)
+    }
+}
+
 /// The sources of a FROM list.
+#[tactic(auto, unfolding(crate::specs::Grammar::sources))]
 pub fn sources<'a>(
     alloc: Global,
     tokens: &[Token<'a>],
     at: usize,
 ) -> Result<(Seq<RawSource<'a>>, usize), Stop>
     requires { AreWhole tokens.now }
-    ensures { Gives (map source_of) tokens.now result (sources_at (left tokens.now at)) }
+    ensures { Gives (map source_of) tokens.now result (grammar.sources.read (left tokens.now at)) }
 {
-    let (first, mut after) = first_source(alloc, tokens, at)?;
-    let mut found = Seq::new(alloc);
-    found.push(first)?;
-    'each: while next_is(tokens, after, &[Mark::Comma, Mark::Keyword(Keyword::Join)]) {
-        let (next, behind) = source(alloc, tokens, after)?;
-        found.push(next)?;
-        after = behind;
-    }
-    Ok((found, after))
+    let (first, after) = first_source(alloc, tokens, at)?;
+    listed(
+        alloc,
+        tokens,
+        first,
+        after,
+        &[Mark::Comma, Mark::Keyword(Keyword::Join)],
+    )
 }
 
 /// The conditions of WHERE, if it stands there.
-#[tactic(auto, unfolding(crate::specs::QueryReaders::where_at))]
+#[tactic(auto, unfolding(crate::specs::Grammar::filters))]
 pub fn filters<'a>(
     alloc: Global,
     tokens: &[Token<'a>],
     at: usize,
 ) -> Result<(Seq<RawCond<'a>>, usize), Stop>
     requires { AreWhole tokens.now }
-    ensures { Gives (map condition_of) tokens.now result (where_at (left tokens.now at)) }
+    ensures { Gives (map condition_of) tokens.now result (grammar.filters.read (left tokens.now at)) }
 {
     if !next_is(tokens, at, &[Mark::Keyword(Keyword::Where)]) {
         return Ok((Seq::new(alloc), at));

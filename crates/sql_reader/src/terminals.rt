@@ -1,12 +1,12 @@
 ghost use Rattle.std.specs.Prelude.{◌≡◌, ◌+◌, map, option_map};
 ghost use Rattle.sql_lexer.specs.Lexing.{lexeme};
 ghost use Rattle.sql_lexer.specs.Longest.{IsText};
-ghost use Rattle.sql_reader.specs.Marks.{is_mark};
+ghost use Rattle.sql_reader.specs.Marks.{is_mark, is_one_of};
 ghost use Rattle.sql_reader.specs.Syntax.{literal_of};
 ghost use Rattle.sql_reader.specs.Grammar.{function_in, function_marked, inside_of, literal_in, op_marked, number_in};
-ghost use Rattle.sql_reader.specs.Readers.{next_is, one};
-ghost use Rattle.sql_reader.specs.QueryReaders.{is_one_of, mark_at, op_at, literal_at};
-ghost use Rattle.sql_reader.specs.Answers.{AreWhole, Gives, IsWhole, function_of, left, with_next};
+ghost use Rattle.sql_reader.specs.Readers.{next_is};
+ghost use Rattle.sql_reader.specs.Grammar as grammar;
+ghost use Rattle.sql_reader.specs.inside.Answers.{AreWhole, Gives, IsWhole, function_of, left, with_next};
 
 use crate::mark::{Mark, mark_of};
 use crate::raw::RawLit;
@@ -57,7 +57,7 @@ pub fn next_is(tokens: &[Token<'_>], at: usize, marks: &[Mark]) -> bool
 
 /// A token of this mark.
 pub fn token<'a>(tokens: &[Token<'a>], at: usize, mark: Mark) -> Result<(Token<'a>, usize), Stop>
-    ensures { Gives lexeme tokens.now result (mark_at mark (left tokens.now at)) }
+    ensures { Gives lexeme tokens.now result ((grammar.sign mark).read (left tokens.now at)) }
 {
     match next(tokens, at) {
         Some(token) if is_mark(token, mark) => Ok((*token, at + 1)),
@@ -82,9 +82,8 @@ fn op_marked(mark: Mark) -> Option<CmpOp>
 }
 
 /// A comparison.
-#[tactic(auto, unfolding(crate::specs::QueryReaders::op_at))]
 pub fn op(tokens: &[Token<'_>], at: usize) -> Result<(CmpOp, usize), Stop>
-    ensures { Gives (λ op. op) tokens.now result (op_at (left tokens.now at)) }
+    ensures { Gives (λ op. op) tokens.now result (grammar.op.read (left tokens.now at)) }
 {
     let Some(token) = next(tokens, at) else {
         return Err(Stop::Unexpected(None));
@@ -116,10 +115,9 @@ fn literal_in<'a>(token: &Token<'a>) -> Option<RawLit<'a>>
 }
 
 /// A literal.
-#[tactic(auto, unfolding(crate::specs::QueryReaders::literal_at))]
 pub fn literal<'a>(tokens: &[Token<'a>], at: usize) -> Result<(RawLit<'a>, usize), Stop>
     requires { AreWhole tokens.now }
-    ensures { Gives literal_of tokens.now result (literal_at (left tokens.now at)) }
+    ensures { Gives literal_of tokens.now result (grammar.literal.read (left tokens.now at)) }
 {
     let Some(token) = next(tokens, at) else {
         return Err(Stop::Unexpected(None));
@@ -145,7 +143,7 @@ fn function_in(token: &Token<'_>) -> Option<FunctionWord>
 
 /// SUM, MIN or MAX.
 pub fn function(tokens: &[Token<'_>], at: usize) -> Result<(FunctionWord, usize), Stop>
-    ensures { Gives function_of tokens.now result (one function_in (left tokens.now at)) }
+    ensures { Gives function_of tokens.now result (grammar.function.read (left tokens.now at)) }
 {
     let Some(token) = next(tokens, at) else {
         return Err(Stop::Unexpected(None));

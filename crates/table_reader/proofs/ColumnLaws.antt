@@ -3,7 +3,8 @@ use Rattle.std.proofs.Common.{◌≡◌, ℕ, zero, suc, ◌+◌, ◌<◌, ◌�
 use Rattle.std.proofs.lemmas.List.{append-nil, drop_all, drop_more, get_or_at, length-take-le, set_at, take_all, take_more}
 use Rattle.mq_base.specs.declared.value.Value.{Value}
 use Rattle.mq_base.specs.declared.value.ValueType.{ValueType}
-use Rattle.table_reader.specs.Content.{cell_value, columns_from, with_rows}
+use Rattle.table_reader.specs.Content.{cell_value, columns_from}
+use Rattle.table_reader.specs.inside.Growing.{with_rows}
 use Rattle.table_reader.specs.Faults.{field_in, type_at}
 use Rattle.table_reader.specs.Records.{Fields}
 

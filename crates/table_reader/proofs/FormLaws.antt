@@ -1,13 +1,13 @@
 -- Rows without a fault give a table of the right form.
-use Rattle.std.proofs.Common.{sym, ◌≡◌, ◌&&◌, ℕ, zero, suc, ◌+◌, ◌<◌, ◌≤◌, List, [], ◌∷◌, Option, Some, None, Bool, true, false, length, refl, arith, nat_lt}
+use Rattle.std.proofs.Common.{sym, ◌≡◌, ℕ, zero, suc, ◌+◌, ◌<◌, ◌≤◌, List, [], ◌∷◌, Option, Some, None, Bool, true, false, length, refl, arith, nat_lt}
 use Rattle.std.specs.Prelude.{All, T, ℤ, pos, negsuc, is_some, unwrap_or, if◌then◌else◌, int_le, ◌≤ℤ◌}
 use Rattle.std.specs.List.{AllZip}
 use Rattle.std.specs.Option.{option_and_then}
 use Rattle.std.specs.Int.Signed.{le_z_yes}
-use Rattle.std.proofs.lemmas.Bool.{ltb-false}
+use Rattle.std.proofs.lemmas.Bool.{and_parts, ltb-false}
 use Rattle.std.proofs.lemmas.List.{length-map}
-use Rattle.base_laws.specs.Firsts.{or_else, first_at}
-use Rattle.base_laws.proofs.FirstLaws.{first_at-none}
+use Rattle.base_laws.specs.Firsts.{first_at}
+use Rattle.base_laws.proofs.FirstLaws.{first_at-none, none_left}
 use Rattle.mq_base.specs.declared.schema.AttrInfo.{AttrInfo}
 use Rattle.mq_base.specs.declared.schema.Schema.{Schema}
 use Rattle.mq_base.specs.declared.value.ValueType.{ValueType}
@@ -16,20 +16,11 @@ use Rattle.mq_base.specs.declared.value.Value.TheVariants as value
 use Rattle.mq_base.specs.Schema.{columns_of}
 use Rattle.mq_base.specs.Table.{HasForm, IsColumn}
 use Rattle.mq_base.specs.Value.{IsCell}
-use Rattle.table_reader.specs.declared.refusal.TableNo.TheVariants.{BadInt, TextTooLong, TooManyRows}
+use Rattle.table_reader.specs.Codes.{bad_int, text_too_long, too_many_rows}
 use Rattle.table_reader.specs.Content.{cell_value, column_of, columns_from, content_of}
 use Rattle.table_reader.specs.Faults.{cell_fault, count_fault, field_fault, field_in, length_fault, record_fault, row_fault, rows_fault, type_at, types_of}
 use Rattle.word_forms.specs.Integers.{fits_64_bits, int_of, integer_of, within_64_bits}
 use Rattle.table_reader.specs.Records.{Fields}
-
--- two tests of which neither finds a fault
-both_pass : {F : Type 0} (here rest : Option F) → or_else here rest ≡ None → (here ≡ None) × (rest ≡ None)
-both_pass None rest none = (refl, none)
-both_pass (Some fault) rest none = cc
-
-both_true : (a b : Bool) → (a && b) ≡ true → (a ≡ true) × (b ≡ true)
-both_true true b both = (refl, both)
-both_true false b both = cc
 
 holds : (b : Bool) → b ≡ true → T b
 holds true is = tt
@@ -51,7 +42,7 @@ number_fits : (z : ℤ) → is_some (within_64_bits z) ≡ true → IsCell type.
 number_fits z some = by (fits_64_bits z) refl
   where
     by : (fits : Bool) → fits_64_bits z ≡ fits → IsCell type.Int (value.Int z)
-    by true fits = let both = both_true (int_le (negsuc 9223372036854775807) z) (int_le z (pos 9223372036854775807)) fits in
+    by true fits = let both = and_parts (int_le (negsuc 9223372036854775807) z) (int_le z (pos 9223372036854775807)) fits in
         (at_most (negsuc 9223372036854775807) z both.0, at_most z (pos 9223372036854775807) both.1)
     by false fits = cc (rw fits at some)
 
@@ -73,15 +64,15 @@ number_is_cell field (Some z) is some = number_fits z (found_fits (int_of field)
 
 -- the value of a field without a fault is one that a cell may hold
 pub field_is_cell : (ty : ValueType) (row col : ℕ) (field : List ℕ) → field_fault ty row col field ≡ None → IsCell ty (cell_value ty field)
-field_is_cell type.Int row col field passes = number_is_cell field (integer_of field) refl (held _ (BadInt row col) passes)
-field_is_cell type.Text row col field passes = ltb-false 120 (length field) (not_held (nat_lt 120 (length field)) (TextTooLong row col) passes)
+field_is_cell type.Int row col field passes = number_is_cell field (integer_of field) refl (held _ (bad_int row col) passes)
+field_is_cell type.Text row col field passes = ltb-false 120 (length field) (not_held (nat_lt 120 (length field)) (text_too_long row col) passes)
 
 -- a row without a fault has a cell at each place
 record_cells : (types : List ValueType) (row : ℕ) (fields : Fields) → row_fault types row fields ≡ None
     → (col : ℕ) → col < length types → IsCell (type_at types col) (cell_value (type_at types col) (field_in fields col))
 record_cells types row fields passes col below =
-    let counted = both_pass (count_fault row) (record_fault types row fields) passes in
-    let parts = both_pass (length_fault types row fields) (first_at (cell_fault types row fields) 0 (length types)) counted.1 in
+    let counted = none_left (count_fault row) (record_fault types row fields) passes in
+    let parts = none_left (length_fault types row fields) (first_at (cell_fault types row fields) 0 (length types)) counted.1 in
     field_is_cell (type_at types col) row col (field_in fields col)
     (first_at-none (cell_fault types row fields) 0 (length types) parts.1 col (omega arith) (omega arith))
 
@@ -94,7 +85,7 @@ rows_cells : (types : List ValueType) (row : ℕ) (rows : List Fields) → rows_
     → (col : ℕ) → col < length types → All (IsCell (type_at types col)) (column_of (type_at types col) col rows)
 rows_cells types row [] passes col below = λ k d past. absurd (omega arith)
 rows_cells types row (fields ∷ rows) passes col below =
-    let parts = both_pass (row_fault types row fields) (rows_fault types (suc row) rows) passes in
+    let parts = none_left (row_fault types row fields) (rows_fault types (suc row) rows) passes in
     all_cons (IsCell (type_at types col)) (cell_value (type_at types col) (field_in fields col)) (column_of (type_at types col) col rows)
     (record_cells types row fields parts.0 col below) (rows_cells types (suc row) rows parts.1 col below)
 
@@ -103,9 +94,9 @@ rows_few : (types : List ValueType) (row : ℕ) (rows : List Fields) → row ≤
     → row + length rows ≤ 100001
 rows_few types row [] low passes = omega arith
 rows_few types row (fields ∷ rows) low passes =
-    let parts = both_pass (row_fault types row fields) (rows_fault types (suc row) rows) passes in
-    let counted = both_pass (count_fault row) (record_fault types row fields) parts.0 in
-    let within : row ≤ 100000 = ltb-false 100000 row (not_held (nat_lt 100000 row) TooManyRows counted.0) in
+    let parts = none_left (row_fault types row fields) (rows_fault types (suc row) rows) passes in
+    let counted = none_left (count_fault row) (record_fault types row fields) parts.0 in
+    let within : row ≤ 100000 = ltb-false 100000 row (not_held (nat_lt 100000 row) too_many_rows counted.0) in
     let rest : suc row + length rows ≤ 100001 = rows_few types (suc row) rows (omega arith) parts.1 in
     omega arith
 

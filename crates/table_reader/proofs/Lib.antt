@@ -4,4 +4,3 @@ pub mod FaultLaws
 pub mod HeaderLaws
 pub mod FormLaws
 pub mod TableLaws
-pub mod SchemaLaws

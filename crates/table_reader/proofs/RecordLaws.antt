@@ -4,7 +4,8 @@ use Rattle.csv.specs.Machine.{Read, next_record}
 use Rattle.csv.specs.Reading.{NextIs, ReadRecord, ReadsNext, default_config, pending_of, records_from, records_next, took_first}
 use Rattle.csv.specs.declared.parser.State.{State}
 use Rattle.csv.specs.declared.reader.Reader.{Reader}
-use Rattle.table_reader.specs.Records.{Fields, IsReading, records_after, records_left, records_with, unread}
+use Rattle.table_reader.specs.Records.{Fields}
+use Rattle.table_reader.specs.inside.Reading.{IsReading, records_after, records_left, records_with, unread}
 
 -- what `next_record` gives decides the first of the records
 next_decides : (n : ℕ) (next : Option Read) (found : Bool) (fields : Fields) (state : State) (rest : List ℕ) → NextIs next found fields state rest

@@ -1,5 +1,6 @@
--- The values that rows without a fault give, column by column. docs/FORMATS.md, "Table file", tells it in prose.
-use Rattle.std.specs.Prelude.{ℕ, suc, List, [], ◌∷◌, ◌++◌, map, length, pos, unwrap_or}
+-- The values that rows without a fault give, column by column, which `read_table` answers. docs/FORMATS.md, "Table file",
+-- tells it in prose.
+use Rattle.std.specs.Prelude.{ℕ, suc, List, [], ◌∷◌, map, length, pos, unwrap_or}
 use Rattle.mq_base.specs.declared.value.Value.{Value}
 use Rattle.mq_base.specs.declared.value.Value.TheVariants as value
 use Rattle.mq_base.specs.declared.value.ValueType.{ValueType}
@@ -26,10 +27,3 @@ columns_from (ty ∷ types) col rows = column_of ty col rows ∷ columns_from ty
 -- the content of a table with columns of these types: the number of its rows, and its columns
 abbrev pub content_of : ℕ → List ValueType → List Fields → PlainTable
 content_of t types rows = record { table = record { 0 = t }; rows = length rows; columns = columns_from types 0 rows }
-
--- columns of these types, from a place on, with the values of more rows at their ends
-abbrev pub with_rows : List ValueType → ℕ → List (List Value) → List Fields → List (List Value)
-with_rows [] col columns rows = []
-with_rows (ty ∷ types) col [] rows = []
-with_rows (ty ∷ types) col (column ∷ columns) rows =
-    (column ++ column_of ty col rows) ∷ with_rows types (suc col) columns rows

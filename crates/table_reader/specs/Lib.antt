@@ -1,4 +1,6 @@
-pub mod Records
-pub mod Faults
-pub mod Content
 pub mod Outcome
+pub mod Faults
+pub mod Codes
+pub mod Content
+pub mod Records
+pub mod inside

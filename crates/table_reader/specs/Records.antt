@@ -1,12 +1,8 @@
 -- The records that a table's file is read as, by the rules of `csv`: its defaults, no trimming, one byte order mark
 -- taken off. docs/FORMATS.md, "Table file", tells it in prose.
-use Rattle.std.specs.Prelude.{◌≡◌, ℕ, Bool, true, false, List, [], ◌∷◌, Option, Some, None, IsSome}
-use Rattle.std.specs.Borrow.{Bor}
-use Rattle.csv.specs.Reading.{Ready, default_config, reader_config, reader_state, reader_trim, records_from, source_of, strip_bom}
-use Rattle.csv.specs.declared.parser.State.{State}
+use Rattle.std.specs.Prelude.{ℕ, List}
+use Rattle.csv.specs.Reading.{default_config, records_from, strip_bom}
 use Rattle.csv.specs.declared.parser.State.TheVariants as st
-use Rattle.csv.specs.declared.reader.Reader.{Reader}
-use Rattle.csv.specs.declared.reader.Trim.TheVariants as trim
 
 -- a record: its fields, each a list of bytes
 abbrev pub Fields : Type 0
@@ -15,28 +11,3 @@ Fields = List (List ℕ)
 -- the records of a file, as many as are looked at: the header, 100,000 rows, and one more row that is refused
 abbrev pub records_of : List ℕ → List Fields
 records_of bytes = records_from default_config 100002 st.StartRecord (strip_bom bytes)
-
--- at most n of the records of bytes that are read on from a state
-abbrev pub records_after : ℕ → State → Option (List ℕ) → List Fields
-records_after n state None = []
-records_after n state (Some bytes) = records_from default_config n state bytes
-
--- the bytes that a reader of bytes in memory has yet to read
-abbrev pub unread : Reader (Bor (List ℕ)) → Option (List ℕ)
-unread reader = source_of (λ (s : Bor (List ℕ)). Some s.now) reader
-
--- at most n of the records that a reader has yet to give
-abbrev pub records_left : ℕ → Reader (Bor (List ℕ)) → List Fields
-records_left n reader = records_after n (reader_state reader) (unread reader)
-
--- a reader of bytes in memory that gives each record as it stands
-pub record IsReading (reader : Reader (Bor (List ℕ))) : Type 0 where
-  pub defaults : reader_config reader ≡ default_config
-  pub untrimmed : reader_trim reader ≡ trim.None
-  pub ready : Ready reader
-  pub goes_on : IsSome (unread reader)
-
--- the records, where one read found a record or none, and the rest are these
-abbrev pub records_with : Bool → Fields → List Fields → List Fields
-records_with true fields rest = fields ∷ rest
-records_with false fields rest = []

@@ -1,10 +1,11 @@
 ghost use Rattle.std.specs.Prelude.{◌≡◌, ◌∷◌, ◌++◌, ◌<◌, ◌≤◌, ◌^◌, [], length, replicate, IfOk, OnOk};
 ghost use Rattle.csv.specs.Records.{fields_of};
-ghost use Rattle.base_laws.specs.Firsts.{first_at};
-ghost use Rattle.table_reader.specs.Content.{cell_value, with_rows};
+ghost use Rattle.base_laws.specs.Firsts.{StopsAt, first_at};
+ghost use Rattle.table_reader.specs.Codes.{refusal_of};
+ghost use Rattle.table_reader.specs.Content.{cell_value};
+ghost use Rattle.table_reader.specs.inside.Growing.{with_rows};
 ghost use Rattle.table_reader.specs.Faults.{cell_fault, field_fault, record_fault, rows_fault};
-ghost use Rattle.table_reader.specs.Outcome.{StopsAt};
-ghost use Rattle.table_reader.specs.Records.{IsReading, records_left};
+ghost use Rattle.table_reader.specs.inside.Reading.{IsReading, records_left};
 
 use crate::records::{field, next_record};
 use crate::refusal::TableNo;
@@ -13,10 +14,10 @@ use mq_base::{Seq, Text, Value, ValueType};
 use std::alloc::{AllocError, Global};
 use word_forms::integer;
 
-/// The most rows that a table may have.
+// The most rows that a table may have.
 const MAX_ROWS: u64 = 100_000;
 
-/// The most bytes that a TEXT field may have.
+// The most bytes that a TEXT field may have.
 const MAX_TEXT: usize = 120;
 
 /// As many columns without values.
@@ -30,7 +31,7 @@ pub fn empty_columns(alloc: Global, count: usize) -> Result<Vec<Seq<Value>>, All
     Ok(columns)
 }
 
-/// The value of the field of a row in a column of this type.
+// The value of the field of a row in a column of this type.
 fn value_of(
     alloc: Global,
     ty: ValueType,
@@ -38,7 +39,7 @@ fn value_of(
     col: u32,
     field: &[u8],
 ) -> Result<Value, TableNo>
-    ensures fault { StopsAt result (field_fault ty row col field.now) }
+    ensures fault { StopsAt refusal_of result (field_fault ty row col field.now) }
     ensures value { IfOk result (λ value. value ≡ cell_value ty field.now) }
 {
     match ty {
@@ -55,7 +56,7 @@ fn value_of(
     }
 }
 
-/// Puts the value of each field of a row at the end of its column, from the left.
+// Puts the value of each field of a row at the end of its column, from the left.
 fn push_values(
     alloc: Global,
     types: &[ValueType],
@@ -66,7 +67,7 @@ fn push_values(
     requires columns { length columns.old ≡ length types.now }
     requires fields { length (fields_of current.now) ≡ length types.now }
     requires few { length types.now < 2 ^ 32 }
-    ensures fault { StopsAt result (first_at (cell_fault types.now row (fields_of current.now)) 0 (length types.now)) }
+    ensures fault { StopsAt refusal_of result (first_at (cell_fault types.now row (fields_of current.now)) 0 (length types.now)) }
     ensures values { OnOk result (columns.new ≡ with_rows types.now 0 columns.old (fields_of current.now ∷ [])) }
 {
     for col in 0..types.len() {
@@ -76,7 +77,7 @@ fn push_values(
     Ok(())
 }
 
-/// Puts the values of a row at the ends of the columns, where the row has a field for each.
+// Puts the values of a row at the ends of the columns, where the row has a field for each.
 fn push_row(
     alloc: Global,
     types: &[ValueType],
@@ -86,7 +87,7 @@ fn push_row(
 ) -> Result<(), TableNo>
     requires columns { length columns.old ≡ length types.now }
     requires few { length types.now < 2 ^ 32 }
-    ensures fault { StopsAt result (record_fault types.now row (fields_of current.now)) }
+    ensures fault { StopsAt refusal_of result (record_fault types.now row (fields_of current.now)) }
     ensures values { OnOk result (columns.new ≡ with_rows types.now 0 columns.old (fields_of current.now ∷ [])) }
 {
     if current.len() != types.len() {
@@ -106,7 +107,7 @@ pub fn read_rows(
     requires reading { IsReading reader.old }
     requires columns { length columns.old ≡ length types.now }
     requires few { length types.now < 2 ^ 32 }
-    ensures fault { StopsAt result (rows_fault types.now 1 (records_left 100001 reader.old)) }
+    ensures fault { StopsAt refusal_of result (rows_fault types.now 1 (records_left 100001 reader.old)) }
     ensures rows { IfOk result (λ rows. rows ≡ length (records_left 100001 reader.old)) }
     ensures values { OnOk result (columns.new ≡ with_rows types.now 0 columns.old (records_left 100001 reader.old)) }
 {

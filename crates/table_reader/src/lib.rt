@@ -9,6 +9,3 @@ mod table;
 
 pub use refusal::TableNo;
 pub use table::read_table;
-
-#[cfg(test)]
-mod tests;

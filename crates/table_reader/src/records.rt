@@ -1,6 +1,7 @@
 ghost use Rattle.std.specs.Prelude.{◌≡◌, ◌<◌, ℕ, suc, IfOk, OnOk, length, slice_index_or, []};
 ghost use Rattle.csv.specs.Records.{fields_of};
-ghost use Rattle.table_reader.specs.Records.{IsReading, records_of, records_left, records_with};
+ghost use Rattle.table_reader.specs.Records.{records_of};
+ghost use Rattle.table_reader.specs.inside.Reading.{IsReading, records_left, records_with};
 ghost use Rattle.table_reader.specs.Faults.{field_in};
 
 use csv::{ByteRecord, Reader, ReaderBuilder};

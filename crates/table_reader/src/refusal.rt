@@ -1,7 +1,7 @@
 ghost use Rattle.std.specs.Prelude.{◌≡◌};
 ghost use Rattle.table_reader.specs.declared.refusal.TableNo.TheVariants as refusal;
 
-use mq_base::NoMemory;
+use mq_base::{NoMemory, Refusal, Refusing};
 use std::alloc::{AllocError, AllocFailed};
 use std::error::Error;
 use std::fmt;
@@ -41,6 +41,24 @@ impl fmt::Display for TableNo {
 }
 
 impl Error for TableNo {}
+
+impl Refusing for TableNo {
+    ghost use Rattle.table_reader.specs.Codes.{refusal_of};
+
+    ghost told = { refusal_of };
+
+    fn refusal(&self) -> Option<Refusal> {
+        let (code, at, item) = match self {
+            TableNo::BadHeader => (1, 0, 0),
+            TableNo::BadRow { row } => (2, *row, 0),
+            TableNo::BadInt { row, col } => (3, *row, u64::from(*col)),
+            TableNo::TextTooLong { row, col } => (4, *row, u64::from(*col)),
+            TableNo::TooManyRows => (5, 100_001, 0),
+            TableNo::NoMemory => return None,
+        };
+        Some(Refusal { code, at, item })
+    }
+}
 
 impl From<AllocError> for TableNo {
     ghost from_gives = { λ _ e. e ≡ refusal.NoMemory };

@@ -1,1 +1,2 @@
 pub mod IntegerLaws
+pub mod KeywordLaws

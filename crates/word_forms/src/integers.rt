@@ -1,7 +1,7 @@
 ghost use Rattle.std.specs.Prelude.{◌≡◌, ◌-◌, ◌^◌, min, option_map};
 ghost use Rattle.word_forms.specs.Integers.{integer_of, natural_of, within_64_bits};
 
-/// The number of at least one digit and of nothing else, cut at 2^64 - 1.
+// The number of at least one digit and of nothing else, cut at 2^64 - 1.
 #[tactic(auto, using(crate::proofs::IntegerLaws::digit_by_digit))]
 fn natural(digits: &[u8]) -> Option<u64>
     ensures { result ≡ option_map (λ n. min n (2 ^ 64 - 1)) (natural_of digits.now) }
@@ -21,7 +21,7 @@ fn natural(digits: &[u8]) -> Option<u64>
     Some(number)
 }
 
-/// The number itself where `i64` holds it.
+// The number itself where `i64` holds it.
 fn within_i64(number: i128) -> Option<i64>
     ensures { result ≡ within_64_bits number }
 {

@@ -20,7 +20,7 @@ pub enum Keyword {
     Count,
 }
 
-/// Whether the text is this keyword, in any case of letters.
+// Whether the text is this keyword, in any case of letters.
 fn is_spelt(text: &[u8], keyword: &str) -> bool
     ensures { result ≡ str_eq_ignore_ascii_case text.now keyword.now }
 {

@@ -8,7 +8,4 @@ mod word;
 
 pub use integers::integer;
 pub use keyword::Keyword;
-pub use word::is_word;
-
-#[cfg(test)]
-mod tests;
+pub use word::{is_first, is_later, is_word};

@@ -1,7 +1,6 @@
-//! The worked rows as tests of the top call, over shelves and sinks in memory. There is no code here.
+//! The worked rows as tests of the top call, over shelves and sinks in memory. There is no code here; the tests of
+//! what each reader answers stand in `reader_tests`.
 #![tactic(auto)]
 
-#[cfg(test)]
-mod queries;
 #[cfg(test)]
 mod tests;

@@ -1,30 +1,29 @@
-use Rattle.std.proofs.Common.{ap}
 use Rattle.std.proofs.lemmas.Result.{err_from_is_err_and}
+use Rattle.policy_reader.specs.Accepted.{IsAccepted}
+use Rattle.policy_reader.specs.Codes as policy
+use Rattle.policy_reader.specs.Outcome.{policy_outcome}
 use Rattle.planner_cli.specs.declared.status.FileRole.TheVariants as role
-use Rattle.planner_cli.specs.Input.{policy_input, policy_judged, policy_read}
-use Rattle.planner_cli.specs.Loading.{shelved}
-use Rattle.planner_cli.proofs.Stopping.{reads_ok, reads_no, stops_from_file, number_some}
+use Rattle.planner_cli.specs.Input.{policy_input}
+use Rattle.planner_cli.proofs.Judging.{answer_judges, judged_if_ok}
+use Rattle.planner_cli.proofs.Knowing.{loads_judged, loads_failed}
+use Rattle.planner_cli.proofs.Numbers.{policy_numbered}
 use Rattle.planner_cli.proofs.files.load_policy.Goals as goal
 
-pub returns-in_err-bytes-clause-stops : goal.returns-in_err-bytes-clause-stops
+pub returns-in_err-bytes-clause-loads : goal.returns-in_err-bytes-clause-loads
 unfolding policy_input
-returns-in_err-bytes-clause-stops g c =
+returns-in_err-bytes-clause-loads g c =
     let p = err_from_is_err_and c.from_residual.result c.from_residual.ensures.1 in
-    rw (p.1, p.2) (stops_from_file _ role.Policy c.args.name.now policy_read _ c.in_err-bytes.ensures.stops)
+    rw (p.1, p.2) (loads_failed (g.H.Shelf.state c.args.shelf.now) (g.H.Shelf.state c.read_file.new.shelf) role.Policy c.args.name.now
+    policy_outcome _ c.in_err-bytes.ensures.stops)
 
-pub returns-in-Ok-clause-read : goal.returns-in-Ok-clause-read
+pub returns-clause-loads : goal.returns-clause-loads
 unfolding policy_input
-returns-in-Ok-clause-read g c =
-    reads_ok role.Policy policy_read (g.H.Shelf.held c.args.shelf.now) c.args.name.now c.in_ok-bytes.bytes.items c.in-Ok.policy
-    c.in_ok-bytes.ensures.content c.in_ok-bytes.ensures.within
-    (ap policy_judged (rw c.as_slice.ensures.value at c.in-Ok.ensures.read))
+returns-clause-loads g c =
+    rw c.judge.ensures
+    (loads_judged (g.H.Shelf.state c.args.shelf.now) (g.H.Shelf.state c.read_file.new.shelf) role.Policy c.args.name.now policy_outcome
+    c.in_ok-bytes.bytes.items _ c.in_ok-bytes.ensures.content c.in_ok-bytes.ensures.within
+    (answer_judges role.Policy policy.told policy_numbered c.read_policy.result _ (rw c.as_slice.ensures.value at c.read_policy.ensures.read)))
 
-pub returns-in-Err-Refused-clause-stops : goal.returns-in-Err-Refused-clause-stops
-unfolding policy_input
-returns-in-Err-Refused-clause-stops g c =
-    let shelf = shelved (g.H.Shelf.held c.args.shelf.now) (g.H.Shelf.steady c.args.shelf.now) (g.H.Shelf.faults c.args.shelf.now)
-    (g.H.Shelf.faults c.read_file.new.shelf) (g.H.Shelf.failed c.read_file.new.shelf) (g.H.Shelf.taken c.read_file.new.shelf) in
-    rw (c.refused.ensures, c.number.ensures)
-    (reads_no shelf role.Policy c.args.name.now policy_read c.in_ok-bytes.bytes.items _ c.in-Err-Refused.at c.in-Err-Refused.item
-    c.in_ok-bytes.ensures.content c.in_ok-bytes.ensures.within (number_some c.in-Err-Refused.code)
-    (ap policy_judged (rw c.as_slice.ensures.value at (rw c.in-Err-Refused.field-0-is at c.in-Err-Refused.ensures.read))))
+pub returns-clause-accepted : goal.returns-clause-accepted
+returns-clause-accepted g c =
+    rw c.judge.ensures (judged_if_ok role.Policy policy.told IsAccepted c.read_policy.result c.read_policy.ensures.accepted)

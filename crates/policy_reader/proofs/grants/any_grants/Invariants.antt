@@ -1,5 +1,6 @@
 use Rattle.std.proofs.Common.{◌≡◌, ℕ, ◌<◌, length, get_or}
-use Rattle.policy_reader.specs.Grants.{any_grant, nothing}
+use Rattle.policy_reader.specs.Grants.{nothing}
+use Rattle.policy_reader.specs.inside.Anyone.{any_grant}
 use Rattle.policy_reader.proofs.grants.any_grants.Given as goal
 
 abbrev pub invariant-loop-t : goal.invariant-loop-t

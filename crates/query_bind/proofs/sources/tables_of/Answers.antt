@@ -1,8 +1,8 @@
-use Rattle.std.proofs.Common.{◌≡◌, get_or, None, sym}
+use Rattle.std.proofs.Common.{◌≡◌, ◌∙◌, get_or, None, sym}
 use Rattle.sql_reader.specs.Syntax.{source_of}
 use Rattle.query_bind.specs.Faults.{source_fault}
 use Rattle.query_bind.specs.Lookup.{source_table}
-use Rattle.query_bind.specs.Results.{numbers}
+use Rattle.query_bind.specs.inside.Results.{numbers}
 use Rattle.query_bind.proofs.SourceLaws.{sources-more, tables-more}
 use Rattle.query_bind.proofs.sources.tables_of.Goals as goal
 
@@ -16,8 +16,8 @@ loop-source-preserved c =
     let there : c.in_ok-table_of_source.field-0.0 ≡ source_table schema (source_of here) =
     rw (← c.source-item.is) c.in_ok-table_of_source.ensures.table in
     record {
-      fault = rw (c.loop-source.invariant.fault, c.in_ok-push.ensures.ok) (sources-more schema c.loop-source.tables
-          c.in_ok-table_of_source.field-0 sources c.loop-source.source-index c.source-item.result c.loop-source-test.true passes there);
-      tables = rw (c.loop-source.invariant.tables, c.in_ok-push.ensures.ok) (tables-more schema c.loop-source.tables
-          c.in_ok-table_of_source.field-0 sources c.loop-source.source-index c.source-item.result c.loop-source-test.true there);
+      fault = c.loop-source.invariant.fault ∙ sources-more schema c.loop-source.tables sources c.loop-source.source-index
+          c.source-item.result c.loop-source-test.true c.loop-source.invariant.tables passes;
+      tables = rw c.in_ok-push.ensures.ok (tables-more schema c.loop-source.tables c.in_ok-table_of_source.field-0 sources
+          c.loop-source.source-index c.source-item.result c.loop-source-test.true c.loop-source.invariant.tables there);
     }

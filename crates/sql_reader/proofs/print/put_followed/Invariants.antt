@@ -1,7 +1,7 @@
 use Rattle.std.proofs.Common.{◌≡◌, ◌++◌, map, take}
 use Rattle.std.specs.Prelude.{All}
 use Rattle.std.specs.String.{string_bytes}
-use Rattle.sql_reader.specs.PrintParts.{followed}
+use Rattle.sql_reader.specs.inside.PrintParts.{followed}
 use Rattle.sql_reader.proofs.print.put_followed.Given as goal
 
 abbrev pub invariant-items : goal.invariant-items

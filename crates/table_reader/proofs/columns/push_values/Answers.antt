@@ -1,7 +1,9 @@
-use Rattle.std.proofs.Common.{◌∙◌, length, arith}
+use Rattle.std.proofs.Common.{◌∙◌, ◌-◌, length, arith}
 use Rattle.std.proofs.lemmas.Result.{err_from_is_err_and}
 use Rattle.csv.specs.Records.{fields_of}
-use Rattle.base_laws.proofs.FirstLaws.{first_at-more, first_at-stop}
+use Rattle.base_laws.specs.Firsts.{first_at}
+use Rattle.base_laws.proofs.FirstLaws.{first_at-more, first_at-stop, told-on}
+use Rattle.table_reader.specs.Codes.{refusal_of}
 use Rattle.table_reader.specs.Faults.{cell_fault}
 use Rattle.table_reader.proofs.ColumnLaws.{value_pushed, values_pushed}
 use Rattle.table_reader.proofs.columns.push_values.Goals as goal
@@ -10,9 +12,10 @@ pub returns-in_err-value-clause-fault : goal.returns-in_err-value-clause-fault
 returns-in_err-value-clause-fault c =
     let p = err_from_is_err_and c.from_residual.result c.from_residual.ensures.1 in
     let test = cell_fault c.args.types.now c.args.row (fields_of c.args.current.now) in
-    rw (p.1, p.2) (λ other. c.loop-col.invariant.0
-    ∙ first_at-stop test c.loop-col.col (length c.args.types.now) c.in_err-value.field-0.0 (omega arith)
-    (rw c.field.ensures at (c.in_err-value.ensures.fault other)))
+    rw (p.1, p.2, c.loop-col.invariant.0)
+    (told-on (refusal_of c.in_err-value.field-0.0) (test c.loop-col.col) (first_at test c.loop-col.col (length c.args.types.now - c.loop-col.col))
+    (λ fault. first_at-stop test c.loop-col.col (length c.args.types.now) fault (omega arith))
+    (rw c.field.ensures at c.in_err-value.ensures.fault))
 
 pub loop-col-preserved : goal.loop-col-preserved
 loop-col-preserved c =

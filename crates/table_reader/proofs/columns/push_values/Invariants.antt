@@ -1,7 +1,7 @@
 use Rattle.std.proofs.Common.{◌≡◌, ◌-◌, ◌∷◌, ◌++◌, [], length, take, drop}
 use Rattle.csv.specs.Records.{fields_of}
 use Rattle.base_laws.specs.Firsts.{first_at}
-use Rattle.table_reader.specs.Content.{with_rows}
+use Rattle.table_reader.specs.inside.Growing.{with_rows}
 use Rattle.table_reader.specs.Faults.{cell_fault}
 use Rattle.table_reader.proofs.columns.push_values.Given as goal
 

@@ -1,10 +1,11 @@
 use Rattle.std.proofs.Common.{◌≡◌, ◌+◌, ◌-◌, [], ◌∙◌, add-zero, ap, arith, length, refl, sym}
 use Rattle.std.proofs.lemmas.Result.{err_from_is_err_and}
 use Rattle.csv.specs.Records.{fields_of}
-use Rattle.table_reader.specs.Content.{with_rows}
-use Rattle.table_reader.specs.Records.{records_left}
+use Rattle.table_reader.specs.Codes.{refusal_of}
+use Rattle.table_reader.specs.inside.Growing.{with_rows}
+use Rattle.table_reader.specs.inside.Reading.{records_left}
 use Rattle.table_reader.proofs.ColumnLaws.{with_rows-cons, with_rows-none}
-use Rattle.table_reader.proofs.FaultLaws.{row_passes, row_stops, too_many_rows}
+use Rattle.table_reader.proofs.FaultLaws.{row_passes, row_above, row_stops}
 use Rattle.table_reader.proofs.RecordLaws.{none_left, one_left}
 use Rattle.table_reader.proofs.columns.read_rows.Goals as goal
 
@@ -48,17 +49,17 @@ returns-in_err-push_row-clause-fault c =
     let one = one_left 100001 c.loop-row.row c.loop-row.reader c.next_record.new.reader c.in_ok-next_record.field-0
     (fields_of c.next_record.new.current) (omega arith) c.in_ok-next_record.ensures.records c.if-not-branch.false in
     let rest = records_left (100001 - (c.loop-row.row + 1)) c.next_record.new.reader in
-    rw (p.1, p.2) (λ other. c.loop-row.invariant.1
-    ∙ rw one (row_stops c.args.types.now (c.loop-row.row + 1) (fields_of c.next_record.new.current) rest
-    c.in_err-push_row.field-0.0 (omega arith) (c.in_err-push_row.ensures.fault other)))
+    rw (p.1, p.2, c.loop-row.invariant.1, one)
+    (row_stops c.args.types.now (c.loop-row.row + 1) (fields_of c.next_record.new.current) rest
+    (refusal_of c.in_err-push_row.field-0.0) (omega arith) c.in_err-push_row.ensures.fault)
 
 pub returns-then-branch-clause-fault : goal.returns-then-branch-clause-fault
-returns-then-branch-clause-fault c other =
+returns-then-branch-clause-fault c =
     let one = one_left 100001 c.loop-row.row c.loop-row.reader c.next_record-2.new.reader c.in_ok-next_record-2.field-0
     (fields_of c.next_record-2.new.current) (omega arith) c.in_ok-next_record-2.ensures.records c.if-branch.true in
     let rest = records_left (100001 - (c.loop-row.row + 1)) c.next_record-2.new.reader in
     c.loop-row.invariant.1
-    ∙ rw one (too_many_rows c.args.types.now (c.loop-row.row + 1) (fields_of c.next_record-2.new.current) rest (omega arith))
+    ∙ rw one (row_above c.args.types.now (c.loop-row.row + 1) (fields_of c.next_record-2.new.current) rest (omega arith))
 
 pub returns-clause-fault : goal.returns-clause-fault
 returns-clause-fault c = c.loop-row.invariant.1 ∙ rw (no_more_at_end c) refl

@@ -1,7 +1,7 @@
 use Rattle.std.proofs.Common.{◌≡◌, ◌+◌, ◌-◌, length}
-use Rattle.table_reader.specs.Content.{with_rows}
+use Rattle.table_reader.specs.inside.Growing.{with_rows}
 use Rattle.table_reader.specs.Faults.{rows_fault}
-use Rattle.table_reader.specs.Records.{IsReading, records_left}
+use Rattle.table_reader.specs.inside.Reading.{IsReading, records_left}
 use Rattle.table_reader.proofs.columns.read_rows.Given as goal
 
 -- what was left at first comes to what is left now, after the rows so far

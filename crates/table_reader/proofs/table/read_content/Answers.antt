@@ -1,6 +1,6 @@
 use Rattle.std.proofs.Common.{◌≡◌, ◌∙◌, length, refl}
 use Rattle.std.specs.Prelude.{vec_len}
-use Rattle.table_reader.specs.Records.{records_left}
+use Rattle.table_reader.specs.inside.Reading.{records_left}
 use Rattle.table_reader.proofs.ColumnLaws.{with_rows-empty, written_over}
 use Rattle.table_reader.proofs.table.read_content.Goals as goal
 

@@ -1,6 +1,6 @@
 use Rattle.std.proofs.Common.{◌∙◌, arith}
 use Rattle.table_reader.proofs.TableLaws.{few_columns, rows_form}
-use Rattle.table_reader.specs.Records.{records_left}
+use Rattle.table_reader.specs.inside.Reading.{records_left}
 use Rattle.table_reader.proofs.table.read_table.Goals as goal
 
 pub read_content-requires-clause-few : goal.read_content-requires-clause-few

@@ -1,0 +1,5 @@
+use Rattle.planner_cli.proofs.Telling.{one_status}
+use Rattle.planner_cli.proofs.ends.one_status.Goals as goal
+
+pub returns : goal.returns
+returns c = one_status

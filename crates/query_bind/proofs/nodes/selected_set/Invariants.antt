@@ -1,8 +1,0 @@
-use Rattle.std.proofs.Common.{◌≡◌, drop}
-use Rattle.std.specs.Prelude.{filter_map}
-use Rattle.base_laws.specs.Sets.{with_members}
-use Rattle.mq_base.specs.Nodes.{item_attribute, selected_set}
-use Rattle.query_bind.proofs.nodes.selected_set.Given as goal
-
-abbrev pub invariant-loop-item : goal.invariant-loop-item
-invariant-loop-item l = selected_set l.items ≡ with_members l.set.0 (filter_map item_attribute (drop l.item-index l.items))
