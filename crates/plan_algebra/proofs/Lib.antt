@@ -1,0 +1,17 @@
+mod BuildingLaws
+mod ClassLaws
+mod FamilyLaws
+mod Examples
+mod PlanLaws
+mod TreeLaws
+mod UsedLaws
+mod SmallLaws
+mod StandLaws
+mod CountLaws
+mod UsesLaws
+mod FormedLaws
+mod GatherLaws
+mod GroupedLaws
+mod MeaningLawsTables
+mod MeaningExamples
+mod MeaningLaws

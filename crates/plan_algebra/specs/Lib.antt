@@ -1,0 +1,11 @@
+pub mod Tree
+pub mod Plan
+pub mod Nodes
+pub mod Families
+pub mod Kinds
+pub mod Facts
+pub mod Building
+pub mod Small
+pub mod Meaning
+pub mod Gathering
+pub mod PropLaws

@@ -1,0 +1,9 @@
+pub mod Rows
+pub mod Tests
+pub mod Groups
+pub mod Select
+pub mod Values
+pub mod Contents
+pub mod Meaning
+pub mod Likeness
+pub mod Laws
