@@ -1,0 +1,4 @@
+pub mod EntryLaws
+pub mod PaddedLaws
+pub mod Places
+pub mod PricedLaws
