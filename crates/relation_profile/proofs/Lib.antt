@@ -1,0 +1,4 @@
+mod Examples
+pub mod CutLaws
+pub mod ViewLaws
+pub mod WalkLaws
