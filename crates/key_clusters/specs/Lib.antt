@@ -1,0 +1,5 @@
+pub mod Asked
+pub mod Clusters
+pub mod Keys
+pub mod Laws
+pub mod inside
