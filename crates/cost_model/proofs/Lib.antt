@@ -1,0 +1,7 @@
+mod CostLaws
+mod CutLaws
+mod EstimateLaws
+mod Examples
+mod TableLaws
+mod UsedLaws
+mod WalkLaws
