@@ -15,7 +15,8 @@ use Rattle.base_laws.proofs.OrderLaws.{slice_cmp-bytes_high_first, slice_cmp-add
 use Rattle.mq_base.specs.declared.value.Value.{Value}
 use Rattle.mq_base.specs.declared.value.Value.TheVariants.{Int, Text}
 use Rattle.mq_base.specs.Value.{type_of, value_cmp}
-use Rattle.mq_base.specs.Bytes.{Fits, shifted, filled, digits, int_block, block_of, digits_of}
+use Rattle.mq_base.specs.Bytes.{IsShort, Fits, shifted, filled, digits, int_block, block_of, digits_of, block_length, digits_length}
+use Rattle.mq_base.specs.BytesLaws.{HasLengths}
 
 -- ---- INT
 
@@ -143,3 +144,20 @@ digits_order (Text s) (Text t) fits fits_too same =
     slice_cmp-filled (digits s) (digits t) _ _ (digits_above s) (digits_above t)
     (omega (arith, length-map s (λ byte. byte + 1), length-map t (λ byte. byte + 1)))
     ∙ slice_cmp-add_one s t
+
+-- ---- lengths
+
+length-digits_of : (v : Value) → IsShort v → length (digits_of v) ≡ digits_length (type_of v)
+length-digits_of (Int x) short = length-map (int_block x) (λ byte. byte + 1) ∙ length-int_block x
+length-digits_of (Text t) short =
+    let few : length t ≤ 120 = short in
+    length-filled 120 (digits t) (omega (arith, length-map t (λ byte. byte + 1)))
+
+length-block_of : (v : Value) → IsShort v → length (block_of v) ≡ block_length (type_of v)
+length-block_of (Int x) short = length-int_block x
+length-block_of (Text t) short =
+    let few : length t ≤ 120 = short in
+    length-filled 122 (length t ∷ t) (omega arith)
+
+pub lengths_by_type : (v : Value) → IsShort v → HasLengths v
+lengths_by_type v short = record { of_block = length-block_of v short; of_digits = length-digits_of v short }

@@ -1,5 +1,6 @@
 pub mod Value
 pub mod Bytes
+pub mod BytesLaws
 pub mod Schema
 pub mod Table
 pub mod ValueLaws

@@ -5,6 +5,7 @@
 mod attr_set;
 mod bytes;
 mod ids;
+mod laws;
 mod memory;
 mod plan;
 mod query;
@@ -17,6 +18,7 @@ mod value;
 
 pub use attr_set::AttrSet;
 pub use ids::{AttrId, NodeId, SubjectId, TableId};
+pub use laws::{blocks_determine, digits_are_ordered, lengths_are_the_types};
 pub use memory::NoMemory;
 pub use plan::{Plan, PlanNode, PlanOp, Step};
 pub use query::{Agg, CmpOp, Cond, Having, Item, Query};
