@@ -5,7 +5,7 @@ use Rattle.cipher_feistel.specs.Feistel.{Halves, after_rounds, halves_of, joined
 use Rattle.cipher_feistel.proofs.Rounds.{HasLengths, after_rounds_cancel, after_rounds_lengths}
 
 -- the halves of a block of 2 n bytes have n
-halves_of_lengths : (block : List ℕ) (n : ℕ) → length block ≡ 2 * n → HasLengths (halves_of block) n
+pub halves_of_lengths : (block : List ℕ) (n : ℕ) → length block ≡ 2 * n → HasLengths (halves_of block) n
 unfolding halves_of
 halves_of_lengths block n e =
     let front = length-take-le (length block / 2) block (omega arith) in

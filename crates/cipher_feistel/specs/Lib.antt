@@ -1,1 +1,2 @@
 pub mod Feistel
+pub mod Laws

@@ -3,7 +3,9 @@
 //! The lowest of the ciphers: it stands on no other crate of this repository.
 #![tactic(auto)]
 
+mod laws;
 mod round;
 mod seal;
 
+pub use laws::{cells_are_as_long, cells_determine};
 pub use seal::{seal_into, unseal_into};

@@ -55,9 +55,9 @@ unfolding sealed_from
 length-sealed_from key earlier [] = refl
 length-sealed_from key earlier (x ∷ xs) = omega (arith, length-sealed_from key (earlier ++ x ∷ []) xs)
 
-pub length-sealed : (key xs : List ℕ) → length (sealed key xs) ≡ 2 * length xs
+pub cell_length : (key xs : List ℕ) → length (sealed key xs) ≡ 2 * length xs
 unfolding sealed
-length-sealed key xs = length-sealed_from key [] xs
+cell_length key xs = length-sealed_from key [] xs
 
 -- ---- order
 
@@ -123,7 +123,7 @@ not_sealed_by : (key cell ds xs : List ℕ) (n y : ℕ) (zs : List ℕ) (h : ℕ
 not_sealed_by key cell ds xs n y zs h long ds_long xs_ok ds_ok y_ok h_fits front next none same =
     let whole = sym same ∙ sealed-append key xs y zs in
     let two = sealed key xs ++ digit_bytes (height key xs y) in
-    let front_length : length (sealed key xs) ≡ 2 * n = omega (arith, length-sealed key xs) in
+    let front_length : length (sealed key xs) ≡ 2 * n = omega (arith, cell_length key xs) in
     let two_length : length two ≡ 2 * n + 2 = omega (arith, length-append (sealed key xs) (digit_bytes (height key xs y))) in
     let by_two : take (2 * n + 2) cell ≡ two = ap (take (2 * n + 2)) whole ∙ take_at two _ _ two_length in
     let by_front : take (2 * n) cell ≡ sealed key xs = ap (take (2 * n)) (whole ∙ append_assoc (sealed key xs) _ _) ∙ take_at (sealed key xs) _ _ front_length in

@@ -4,6 +4,8 @@
 
 mod earlier;
 mod heights;
+mod laws;
 mod seal;
 
+pub use laws::{cells_are_ordered, cells_are_twice_as_long, cells_determine};
 pub use seal::{NotSealed, seal_into, unseal_into};

@@ -22,15 +22,15 @@ sealed_written out key step_bytes row_bytes block body step row k to_end step_is
     ∙ ap (λ (xs : List ℕ). to_be_bytes w32 step ++ to_be_bytes w64 row ++ xs) (append-nil (covered (seed_of key step) row block)))
 
 -- the step, the row and the rest of a cell that was sealed
-sealed_step : (key : List ℕ) (step row : ℕ) (block : List ℕ) → step < 2 ^ 32 → step_of (sealed key step row block) ≡ step
+pub sealed_step : (key : List ℕ) (step row : ℕ) (block : List ℕ) → step < 2 ^ 32 → step_of (sealed key step row block) ≡ step
 unfolding sealed step_of
 sealed_step key step row block small = from_be_bytes-to_be_bytes_4 step small
 
-sealed_row : (key : List ℕ) (step row : ℕ) (block : List ℕ) → row < 2 ^ 64 → row_of (sealed key step row block) ≡ row
+pub sealed_row : (key : List ℕ) (step row : ℕ) (block : List ℕ) → row < 2 ^ 64 → row_of (sealed key step row block) ≡ row
 unfolding sealed row_of
 sealed_row key step row block small = from_be_bytes-to_be_bytes_8 row small
 
-sealed_rest : (key : List ℕ) (step row : ℕ) (block : List ℕ) → drop 12 (sealed key step row block) ≡ covered (seed_of key step) row block
+pub sealed_rest : (key : List ℕ) (step row : ℕ) (block : List ℕ) → drop 12 (sealed key step row block) ≡ covered (seed_of key step) row block
 unfolding sealed
 sealed_rest key step row block = refl
 

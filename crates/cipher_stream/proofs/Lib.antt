@@ -1,3 +1,4 @@
 pub mod Words
 pub mod Covering
 pub mod Cells
+pub mod CellLaws

@@ -4,6 +4,8 @@
 #![tactic(auto)]
 
 mod cell;
+mod laws;
 mod stream;
 
 pub use cell::{seal_into, unseal_into};
+pub use laws::{cells_are_longer, cells_determine, cells_name_their_place};
