@@ -7,3 +7,12 @@ pub mod SetLaws
 pub mod SortLaws
 pub mod MemberLaws
 pub mod KindLaws
+pub mod ApartLaws
+pub mod CutLaws
+pub mod FillLaws
+pub mod ListedLaws
+pub mod NumberLaws
+pub mod PlaceLaws
+pub mod RangeLaws
+pub mod UnionLaws
+pub mod WalkLaws

@@ -2,10 +2,6 @@
 use Rattle.std.specs.Prelude.{◌≡◌, ℕ, zero, suc, ◌+◌, ◌<◌, ◌≤◌, Option, Some, None, List, [], ◌∷◌, ◌++◌, Result, Ok, Err}
 use Rattle.std.specs.Option.{option_or}
 
--- a fault, or else what the tests after it find: another name of std's word
-abbrev pub or_else : {F : Type 0} → Option F → Option F → Option F
-or_else here rest = option_or here rest
-
 -- the first fault at the places from `at` on, of which n are left
 abbrev pub first_at : {F : Type 0} → (ℕ → Option F) → ℕ → ℕ → Option F
 first_at test at zero = None

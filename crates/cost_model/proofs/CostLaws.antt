@@ -1,7 +1,8 @@
 -- What the walk over the visible attributes keeps: the bytes so far, and those of the attributes that are left.
 use Rattle.std.proofs.Common.{◌≡◌, ℕ, ◌^◌, ◌+◌, ◌<◌, ◌≤◌, Option, Some, None, refl, arith}
 use Rattle.std.specs.Prelude.{if◌then◌else◌}
-use Rattle.base_laws.specs.Sets.{has, without, IsLeastMember}
+use Rattle.base_laws.specs.Sets.{has, members, without, IsLeastMember}
+use Rattle.base_laws.proofs.WalkLaws.{members-few, sum-least, sum-none, sum_bound}
 use Rattle.mq_base.specs.declared.table.Scheme.{Scheme}
 use Rattle.mq_base.specs.declared.table.Scheme.TheVariants.{Rnd, Det, Ope}
 use Rattle.mq_base.specs.declared.value.ValueType.{ValueType}
@@ -10,7 +11,6 @@ use Rattle.relation_profile.specs.declared.view.View.{View}
 use Rattle.key_clusters.specs.Keys.{scheme_at}
 use Rattle.cost_model.specs.Costs.{Basis, bytes_at, cells, type_at}
 use Rattle.cost_model.specs.Sizes.{cell_bytes}
-use Rattle.cost_model.proofs.WalkLaws.{sum-few, sum-least, sum-none}
 
 bytes_few : (ty : ValueType) (sealed : Option Scheme) → cell_bytes ty sealed ≤ 240
 bytes_few Int None = omega arith
@@ -24,8 +24,9 @@ bytes_few Text (Some Ope) = omega arith
 
 pub cells-few : (base : Basis) (set : ℕ) (view : View) → cells base set view ≤ 15360
 cells-few base set view =
-    sum-few (bytes_at base view)
-    (λ a. bytes_few (type_at base.schema a) (if has view.enc.0 a then Some (scheme_at base.clusters a) else None)) set
+    let each : (a : ℕ) → bytes_at base view a ≤ 240 =
+    λ a. bytes_few (type_at base.schema a) (if has view.enc.0 a then Some (scheme_at base.clusters a) else None) in
+    omega (arith, sum_bound (bytes_at base view) 240 each (members set), members-few set)
 
 pub cells-least : (base : Basis) (view : View) (left next a : ℕ) → a < 64 → IsLeastMember left a → next ≡ without left (2 ^ a)
     → cells base left view ≡ bytes_at base view a + cells base next view

@@ -1,28 +1,11 @@
--- Cuts of products: a factor may be cut first.
-use Rattle.std.proofs.Common.{◌≡◌, ℕ, zero, suc, ◌^◌, ◌-◌, ◌*◌, ◌<◌, ◌≤◌, min, refl, sym, ◌∙◌, ap, arith, ◌⊎◌, inl, inr}
-use Rattle.std.proofs.Math.Nat.{mul_assoc, mul-one, mul-zero, one-mul}
-use Rattle.std.proofs.lemmas.Nat.{mul-le}
+-- What the walk over grouped attributes keeps: the product so far, times that of the ones that are left, cut.
+use Rattle.std.proofs.Common.{◌≡◌, ℕ, ◌^◌, ◌-◌, ◌*◌, ◌<◌, refl, sym, ◌∙◌, ap, arith}
+use Rattle.std.proofs.Math.Nat.{mul_assoc, mul-one, one-mul}
 use Rattle.base_laws.specs.Sets.{without, IsLeastMember}
+use Rattle.base_laws.proofs.NumberLaws.{cut_times}
+use Rattle.base_laws.proofs.WalkLaws.{members-empty, members-least}
 use Rattle.price_reader.specs.declared.prices.Prices.{Prices}
 use Rattle.cost_model.specs.Estimates.{combinations, distinct_of, fit}
-use Rattle.cost_model.proofs.WalkLaws.{members-empty, members-least}
-
-cut_times : (m x y : ℕ) → min (min x m * y) m ≡ min (x * y) m
-cut_times m x y = by_size (within_or_past x m)
-  where
-    within_or_past : (x m : ℕ) → (x ≤ m) ⊎ (m ≤ x)
-    within_or_past x m = grind arith
-
-    past : (x y : ℕ) → m ≤ x → min (m * y) m ≡ min (x * y) m
-    past x zero more = rw (mul-zero m, mul-zero x) refl
-    past x (suc y) more =
-        let lower : m ≤ m * suc y = grind (arith, mul-le m 1 m (suc y)) in
-        let higher : m * suc y ≤ x * suc y = mul-le m (suc y) x (suc y) more (omega arith) in
-        omega (arith, lower, higher)
-
-    by_size : (x ≤ m) ⊎ (m ≤ x) → min (min x m * y) m ≡ min (x * y) m
-    by_size (inl within) = let same : min x m ≡ x = omega (arith, within) in rw same refl
-    by_size (inr more) = let top : min x m ≡ m = omega (arith, more) in rw top (past x y more)
 
 -- what is left of a product over a set
 abbrev pub combinations_left : Prices → ℕ → ℕ → ℕ

@@ -4,4 +4,3 @@ mod EstimateLaws
 mod Examples
 mod TableLaws
 mod UsedLaws
-mod WalkLaws

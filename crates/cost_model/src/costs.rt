@@ -5,7 +5,6 @@ ghost use Rattle.cost_model.specs.Costs.{basis_of, cut, step_work};
 use crate::estimated::Estimates;
 use crate::sizes::{cell_bytes, cell_units};
 use crate::tables::{net_of, number_at, scheme_of, type_of};
-use crate::walk::{least, single};
 use key_clusters::Clusters;
 use mq_base::{AttrId, AttrSet, NodeId, PlanOp, Schema, Step, SubjectId};
 use plan_algebra::{Kind, PlanFacts};
@@ -156,9 +155,9 @@ fn cells(base: &CostBase<'_>, set: AttrSet, view: &View) -> u64
 {
     let mut total = 0u64;
     let mut left = set;
-    while let Some(a) = least(left) {
+    while let Some(a) = left.first() {
         total += bytes_of(base, a, view);
-        left = left.difference(single(a));
+        left = left.difference(AttrSet::of(a));
     }
     total
 }

@@ -8,7 +8,6 @@ mod reckoning;
 mod rules;
 mod sizes;
 mod tables;
-mod walk;
 
 pub use costs::{CostBase, step_cost};
 pub use estimated::Estimates;

@@ -3,7 +3,6 @@ ghost use Rattle.cost_model.specs.Estimates as estimates_spec;
 ghost use Rattle.cost_model.specs.Estimates.{HasDistinct, combinations, distinct_of, fit, leaf_rule, one_rule, two_rule};
 
 use crate::tables::number_at;
-use crate::walk::{least, single};
 use mq_base::{AttrId, AttrSet, CmpOp, PlanOp};
 use price_reader::Prices;
 
@@ -39,9 +38,9 @@ fn combinations(prices: &Prices, by: AttrSet) -> u64
 {
     let mut product = 1u64;
     let mut left = by;
-    while let Some(a) = least(left) {
+    while let Some(a) = left.first() {
         product = product.saturating_mul(distinct_of(prices, a));
-        left = left.difference(single(a));
+        left = left.difference(AttrSet::of(a));
     }
     product
 }

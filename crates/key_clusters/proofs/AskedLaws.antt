@@ -15,7 +15,7 @@ use Rattle.plan_algebra.specs.declared.kind.Kind.TheVariants as kind
 use Rattle.plan_algebra.specs.declared.plan_facts.PlanFacts.{PlanFacts}
 use Rattle.plan_algebra.specs.Facts.{IsNodeAt, IsOneOn, IsTwoOn, IsVisible, facts_at, node_at}
 use Rattle.plan_algebra.specs.Kinds.{kind_of}
-use Rattle.plan_algebra.specs.Small.{IsSmallAgg}
+use Rattle.mq_base.specs.Small.{IsSmallAgg}
 use Rattle.key_clusters.specs.Asked.{equated_by, extremes, is_extreme, ordered_by}
 use Rattle.key_clusters.specs.inside.Small.{IsSmallOp}
 

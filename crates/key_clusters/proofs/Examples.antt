@@ -1,6 +1,6 @@
 -- Clusters and schemes of small queries, computed; the values are worked out by hand from docs/MODEL.md, "Clusters and keys".
 use lib.Count.{count_trailing_zeros}
-use Rattle.std.proofs.Common.{◌≡◌, ℕ, pos, false, List, [], ◌∷◌, ◌++◌, codes, map, replicate, refl}
+use Rattle.std.proofs.Common.{◌≡◌, ℕ, pos, false, List, [], ◌∷◌, codes, map, replicate, refl}
 use Rattle.std.specs.List.{range_with_len}
 use Rattle.base_laws.specs.Sets.{members}
 use Rattle.mq_base.specs.declared.attr_set.AttrSet.{AttrSet}
@@ -9,7 +9,7 @@ use Rattle.mq_base.specs.declared.ids.TableId.{TableId}
 use Rattle.mq_base.specs.declared.plan.PlanOp.TheVariants as op
 use Rattle.mq_base.specs.declared.query.Agg.{Agg}
 use Rattle.mq_base.specs.declared.query.Agg.TheVariants as agg
-use Rattle.mq_base.specs.declared.query.CmpOp.TheVariants.{Eq, Gt, Ge, Lt}
+use Rattle.mq_base.specs.declared.query.CmpOp.TheVariants.{Eq, Gt, Ge}
 use Rattle.mq_base.specs.declared.table.Scheme.{Scheme}
 use Rattle.mq_base.specs.declared.table.Scheme.TheVariants.{Rnd, Det, Ope}
 use Rattle.mq_base.specs.declared.value.Value.TheVariants.{Int, Text}

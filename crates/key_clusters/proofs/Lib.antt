@@ -1,7 +1,6 @@
 mod AskedLaws
 mod CeilingLaws
 mod Examples
-mod FillLaws
 mod RootLaws
 mod SetLaws
 mod SupportLaws

@@ -1,6 +1,6 @@
 -- The attributes that a node compares stand in one set of the root: each node of the tree keeps what its operands made equivalent, and
 -- the facts of the last node are those of the tree.
-use Rattle.std.proofs.Common.{◌≡◌, ℕ, ◌+◌, ◌-◌, ◌<◌, ◌≤◌, true, ◌&&◌, List, [], ◌∷◌, ◌++◌, length, All, refl, sym, ◌∙◌, ap, append_assoc, arith}
+use Rattle.std.proofs.Common.{◌≡◌, ℕ, ◌+◌, ◌-◌, ◌<◌, true, ◌&&◌, List, [], ◌∷◌, ◌++◌, length, All, refl, sym, ◌∙◌, ap, append_assoc, arith}
 use Rattle.std.proofs.lemmas.List.{append-nil, get_or_at, length-append}
 use Rattle.std.proofs.lemmas.List.Elements.{All-append, All-cons, All-get_or, All-nil, All-weaker}
 use Rattle.base_laws.specs.Sets.{has}
@@ -15,6 +15,7 @@ use Rattle.plan_algebra.specs.Families.{united}
 use Rattle.plan_algebra.specs.Kinds.{kind_of}
 use Rattle.plan_algebra.specs.Nodes.{last_of, leaf_node, nodes_of, one_node, tree_of, two_node}
 use Rattle.plan_algebra.specs.Tree.{Tree, Leaf, One, Two, size}
+use Rattle.plan_algebra.proofs.PlanLaws.{nodes-length}
 use Rattle.key_clusters.specs.Clusters.{root_family}
 use Rattle.key_clusters.specs.Laws.{IfPair, are_together}
 use Rattle.key_clusters.proofs.TogetherLaws.{merged-kept, merged-pair, united-left, united-right}
@@ -89,11 +90,6 @@ node_after nodes facts front node rest are parts =
     let inside : length front < length nodes = rw parts (rw length-append (omega arith)) in
     rw here at (are.node (length front) inside)
 
-nodes_length : (i : ℕ) (x : Tree) → length (nodes_of i x) ≡ size x
-nodes_length i (Leaf t used) = refl
-nodes_length i (One o x) = simp length-append (omega (arith, nodes_length i x))
-nodes_length i (Two o x y) = simp length-append (omega (arith, nodes_length i x, nodes_length (i + size x) y))
-
 -- the facts of the last node of a tree that stands in a plan are those of the tree
 tree_facts : (x : Tree) (nodes : List PlanNode) (facts : List NodeFacts) (front rest : List PlanNode) → IsFacts nodes facts
     → nodes ≡ front ++ nodes_of (length front) x ++ rest → facts_at facts (last_of (length front) x) ≡ facts_of x
@@ -107,13 +103,13 @@ tree_facts (One o x) nodes facts front rest are parts =
     let before : nodes ≡ (front ++ nodes_of (length front) x) ++ root ∷ rest = parts ∙ simp append_assoc in
     let below : facts_at facts (last_of (length front) x) ≡ facts_of x = tree_facts x nodes facts front (root ∷ rest) are before in
     let place : length (front ++ nodes_of (length front) x) ≡ last_of (length front) (One o x) =
-    rw (length-append, nodes_length) (omega arith) in
+    rw (length-append, nodes-length) (omega arith) in
     let at : IsNodeAt (facts_at facts) (length (front ++ nodes_of (length front) x)) o (kind_of root) =
     node_after nodes facts (front ++ nodes_of (length front) x) root rest are before in
     sym (ap (facts_at facts) place) ∙ at.are ∙ ap (one_facts o) below
 tree_facts (Two o x y) nodes facts front rest are parts =
     let root = two_node o (last_of (length front) x) (last_of (length front + size x) y) in
-    let long : length (front ++ nodes_of (length front) x) ≡ length front + size x = rw (length-append, nodes_length) refl in
+    let long : length (front ++ nodes_of (length front) x) ≡ length front + size x = rw (length-append, nodes-length) refl in
     let left : facts_at facts (last_of (length front) x) ≡ facts_of x =
     tree_facts x nodes facts front (nodes_of (length front + size x) y ++ root ∷ rest) are (parts ∙ simp append_assoc) in
     let second : nodes ≡ (front ++ nodes_of (length front) x) ++ nodes_of (length (front ++ nodes_of (length front) x)) y ++ root ∷ rest =
@@ -122,7 +118,7 @@ tree_facts (Two o x y) nodes facts front rest are parts =
     rw long at (tree_facts y nodes facts (front ++ nodes_of (length front) x) (root ∷ rest) are second) in
     let before : nodes ≡ ((front ++ nodes_of (length front) x) ++ nodes_of (length front + size x) y) ++ root ∷ rest = parts ∙ simp append_assoc in
     let place : length ((front ++ nodes_of (length front) x) ++ nodes_of (length front + size x) y) ≡ last_of (length front) (Two o x y) =
-    rw (length-append, long, nodes_length) (omega arith) in
+    rw (length-append, long, nodes-length) (omega arith) in
     let at : IsNodeAt (facts_at facts) (length ((front ++ nodes_of (length front) x) ++ nodes_of (length front + size x) y)) o (kind_of root) =
     node_after nodes facts ((front ++ nodes_of (length front) x) ++ nodes_of (length front + size x) y) root rest are before in
     sym (ap (facts_at facts) place) ∙ at.are ∙ ap (λ f. two_facts o f (facts_at facts (last_of (length front + size x) y))) left
@@ -132,7 +128,7 @@ tree_facts (Two o x y) nodes facts front rest are parts =
 root_is_tree : (facts : PlanFacts) → root_family facts ≡ (facts_of (tree_of facts.plan.nodes)).eq
 root_is_tree facts =
     let long : length facts.plan.nodes ≡ size (tree_of facts.plan.nodes) =
-    ap length facts.is_plan.listed ∙ nodes_length 0 (tree_of facts.plan.nodes) in
+    ap length facts.is_plan.listed ∙ nodes-length 0 (tree_of facts.plan.nodes) in
     let last : facts_at facts.nodes (0 + size (tree_of facts.plan.nodes) - 1) ≡ facts_of (tree_of facts.plan.nodes) =
     tree_facts (tree_of facts.plan.nodes) facts.plan.nodes facts.nodes [] [] facts.are_facts
     (facts.is_plan.listed ∙ sym (append-nil (nodes_of 0 (tree_of facts.plan.nodes)))) in

@@ -1,14 +1,14 @@
 -- The schemes of clusters support what the plan asks for, where no ceiling lowers them; and attributes of one set have one key.
-use Rattle.std.proofs.Common.{◌≡◌, ℕ, zero, suc, ◌^◌, ◌<◌, ◌==◌, Bool, true, false, cond, not, ◌||◌, List, [], ◌∷◌, length, get_or, map, Some, All, ◌⊎◌, inl, inr, refl, sym, ◌∙◌, ap, arith, bit_and, bit_or, zero-add}
-use Rattle.std.specs.Prelude.{filter, slice_get, slice_index_or}
+use Rattle.std.proofs.Common.{◌≡◌, ℕ, zero, suc, ◌<◌, ◌==◌, Bool, true, false, cond, not, List, [], ◌∷◌, length, get_or, map, Some, All, refl, ◌∙◌, ap, arith, bit_and, zero-add}
+use Rattle.std.specs.Prelude.{slice_get, slice_index_or}
 use Rattle.std.specs.List.{list_any, range_with_len}
-use Rattle.std.proofs.lemmas.Bool.{eqb-true}
+use Rattle.std.proofs.lemmas.Bool.{eq-eqb, eqb-true, or_left, or_right}
 use Rattle.std.proofs.lemmas.List.Elements.{All-cons, All-nil, All-tail, All-weaker}
 use Rattle.std.proofs.lemmas.List.FromFn.{length-range_with_len, get_or-range_with_len}
 use Rattle.std.proofs.lemmas.Option.{slice_get-get_or, slice_get-map}
-use Rattle.base_laws.specs.Folds.{union_to}
 use Rattle.base_laws.specs.Sets.{has, members, with_members}
-use Rattle.base_laws.proofs.SetLaws.{has-bit_and, has-bit_or, has-empty, has-single_same, has-union_to, has-with_members}
+use Rattle.base_laws.proofs.SetLaws.{has-bit_and, has-empty, has-single_same, has-union_to, has-with_members}
+use Rattle.base_laws.proofs.UnionLaws.{pair-left, pair-right}
 use Rattle.mq_base.specs.declared.attr_set.AttrSet.{AttrSet}
 use Rattle.mq_base.specs.declared.ids.AttrId.{AttrId}
 use Rattle.mq_base.specs.declared.plan.PlanOp.{PlanOp}
@@ -17,21 +17,20 @@ use Rattle.mq_base.specs.declared.query.Agg.{Agg}
 use Rattle.mq_base.specs.declared.query.CmpOp.{CmpOp}
 use Rattle.mq_base.specs.declared.query.CmpOp.TheVariants.{Eq, Ne, Lt, Le, Gt, Ge}
 use Rattle.mq_base.specs.declared.table.Scheme.{Scheme}
-use Rattle.mq_base.specs.declared.table.Scheme.TheVariants.{Rnd, Det, Ope}
+use Rattle.mq_base.specs.declared.table.Scheme.TheVariants.{Det, Ope}
 use Rattle.plan_algebra.specs.declared.plan_facts.PlanFacts.{PlanFacts}
 use Rattle.plan_algebra.specs.Facts.{node_at}
 use Rattle.plan_algebra.specs.Families.{IsFamily, meets}
-use Rattle.plan_algebra.specs.Small.{IsSmallAgg}
 use Rattle.relation_profile.specs.Schemes.{offers, supports}
 use Rattle.key_clusters.specs.Asked.{equated_by, equated_set, extremes, is_extreme, is_order, ordered_by, ordered_set}
-use Rattle.key_clusters.specs.Clusters.{ceiling_of, least_of, least_scheme, root_family, scheme_for, scheme_in, set_in, set_of, wanted}
+use Rattle.key_clusters.specs.Clusters.{least_of, least_scheme, root_family, scheme_for, scheme_in, set_in, set_of, wanted}
 use Rattle.key_clusters.specs.Keys.{key_of}
-use Rattle.key_clusters.specs.Laws.{IfPair, IsFoldable, IsSupported, ShareKey, are_together}
+use Rattle.key_clusters.specs.Laws.{IfPair, IsSupported, ShareKey, are_together}
 use Rattle.key_clusters.specs.inside.Small.{IsSmallOp}
 use Rattle.key_clusters.proofs.AskedLaws.{small-op}
 use Rattle.key_clusters.proofs.CeilingLaws.{smaller-ope}
 use Rattle.key_clusters.proofs.RootLaws.{root-joined}
-use Rattle.key_clusters.proofs.TogetherLaws.{or_first, or_second, same-set}
+use Rattle.key_clusters.proofs.TogetherLaws.{same-set}
 
 -- attributes of one set have one key
 pub shares-key : (facts : PlanFacts) (ceilings : List Scheme) (seed : List ℕ) (a b : ℕ) → IsFamily (root_family facts)
@@ -138,34 +137,25 @@ ordered_or_equal Le scheme order equal = rw (order refl) refl
 ordered_or_equal Gt scheme order equal = rw (order refl) refl
 ordered_or_equal Ge scheme order equal = rw (order refl) refl
 
-pair_left : (a b : ℕ) → has (bit_or (2 ^ a) (2 ^ b)) a ≡ true
-pair_left a b = has-bit_or (2 ^ a) (2 ^ b) a ∙ or_first (has (2 ^ a) a) (has (2 ^ b) a) (has-single_same a)
-
-pair_right : (a b : ℕ) → has (bit_or (2 ^ a) (2 ^ b)) b ≡ true
-pair_right a b = has-bit_or (2 ^ a) (2 ^ b) b ∙ or_second (has (2 ^ a) b) (has (2 ^ b) b) (has-single_same b)
-
 -- an attribute under MIN or MAX is ordered
-same_test : (n : ℕ) → (n == n) ≡ true
-same_test n = grind arith
-
 extreme_listed : (aggs : List (AttrId × Agg))
     → All (λ (p : AttrId × Agg). is_extreme p.1 ≡ true → list_any (λ k. k == p.0.0) (extremes aggs) ≡ true) aggs
 extreme_listed [] = All-nil (λ (p : AttrId × Agg). is_extreme p.1 ≡ true → list_any (λ k. k == p.0.0) [] ≡ true)
 extreme_listed (q ∷ rest) =
     All-cons (λ (p : AttrId × Agg). is_extreme p.1 ≡ true → list_any (λ k. k == p.0.0) (extremes (q ∷ rest)) ≡ true) q rest
-    (λ extreme. rw extreme (or_first (q.0.0 == q.0.0) (list_any (λ k. k == q.0.0) (extremes rest)) (same_test q.0.0)))
+    (λ extreme. rw extreme (or_left (q.0.0 == q.0.0) (list_any (λ k. k == q.0.0) (extremes rest)) (eq-eqb q.0.0 q.0.0 refl)))
     (All-weaker (λ (p : AttrId × Agg). is_extreme p.1 ≡ true → list_any (λ k. k == p.0.0) (extremes rest) ≡ true)
     (λ (p : AttrId × Agg). is_extreme p.1 ≡ true → list_any (λ k. k == p.0.0) (extremes (q ∷ rest)) ≡ true)
     (λ p later extreme. by_test p (is_extreme q.1) refl (later extreme)) rest (extreme_listed rest))
   where
     by_test : (p : AttrId × Agg) (b : Bool) → is_extreme q.1 ≡ b → list_any (λ k. k == p.0.0) (extremes rest) ≡ true
         → list_any (λ k. k == p.0.0) (extremes (q ∷ rest)) ≡ true
-    by_test p true here later = rw here (or_second (q.0.0 == p.0.0) (list_any (λ k. k == p.0.0) (extremes rest)) later)
+    by_test p true here later = rw here (or_right (q.0.0 == p.0.0) (list_any (λ k. k == p.0.0) (extremes rest)) later)
     by_test p false other later = rw other later
 
 extreme_has : (aggs : List (AttrId × Agg)) (i : ℕ) → list_any (λ k. k == i) (extremes aggs) ≡ true → has (with_members 0 (extremes aggs)) i ≡ true
 extreme_has aggs i listed =
-    has-with_members 0 (extremes aggs) i ∙ or_second (has 0 i) (list_any (λ k. k == i) (extremes aggs)) listed
+    has-with_members 0 (extremes aggs) i ∙ or_right (has 0 i) (list_any (λ k. k == i) (extremes aggs)) listed
 
 -- what an operation asks for is supported
 supported : (f : ℕ → Scheme) (o : PlanOp) → IsSmallOp o → ((a : ℕ) → has (ordered_by o) a ≡ true → f a ≡ Ope)
@@ -175,15 +165,15 @@ supported f (op.SelConst a cmp x) small ordered equated =
     (ordered_or_equal cmp (f a.0) (λ order. ordered a.0 (rw order (has-single_same a.0))) (λ equal. equated a.0 (rw equal (has-single_same a.0))))
 supported f (op.SelAttr a cmp b) small ordered equated = (
   offered f cmp a.0 small.0
-      (ordered_or_equal cmp (f a.0) (λ order. ordered a.0 (rw order (pair_left a.0 b.0))) (λ equal. equated a.0 (rw equal (pair_left a.0 b.0)))),
+      (ordered_or_equal cmp (f a.0) (λ order. ordered a.0 (rw order (pair-left a.0 b.0))) (λ equal. equated a.0 (rw equal (pair-left a.0 b.0)))),
   offered f cmp b.0 small.1
-      (ordered_or_equal cmp (f b.0) (λ order. ordered b.0 (rw order (pair_right a.0 b.0))) (λ equal. equated b.0 (rw equal (pair_right a.0 b.0)))),
+      (ordered_or_equal cmp (f b.0) (λ order. ordered b.0 (rw order (pair-right a.0 b.0))) (λ equal. equated b.0 (rw equal (pair-right a.0 b.0)))),
 )
 supported f (op.Join a cmp b) small ordered equated = (
   offered f cmp a.0 small.0
-      (ordered_or_equal cmp (f a.0) (λ order. ordered a.0 (rw order (pair_left a.0 b.0))) (λ equal. equated a.0 (pair_left a.0 b.0))),
+      (ordered_or_equal cmp (f a.0) (λ order. ordered a.0 (rw order (pair-left a.0 b.0))) (λ equal. equated a.0 (pair-left a.0 b.0))),
   offered f cmp b.0 small.1
-      (ordered_or_equal cmp (f b.0) (λ order. ordered b.0 (rw order (pair_right a.0 b.0))) (λ equal. equated b.0 (pair_right a.0 b.0))),
+      (ordered_or_equal cmp (f b.0) (λ order. ordered b.0 (rw order (pair-right a.0 b.0))) (λ equal. equated b.0 (pair-right a.0 b.0))),
 )
 supported f (op.Group by aggs count) small ordered equated = (
   λ a below inside. offered f Eq a below (equated a inside).0,

@@ -1,28 +1,20 @@
 -- Attributes that stand in one set of a family stay in one set, whatever else is merged, and then it is the set of both.
-use Rattle.std.proofs.Common.{◌≡◌, ℕ, ◌^◌, Bool, true, false, cond, not, ◌||◌, ◌&&◌, List, [], ◌∷◌, All, refl, sym, ◌∙◌, ap, bit_and, bit_or}
+use Rattle.std.proofs.Common.{◌≡◌, ℕ, ◌^◌, Bool, true, false, cond, not, ◌||◌, ◌&&◌, List, [], ◌∷◌, All, refl, sym, ◌∙◌, ap, bit_or}
 use Rattle.std.specs.Prelude.{filter}
 use Rattle.std.specs.List.{list_any}
 use Rattle.std.specs.Ordering.{is_gt}
+use Rattle.std.proofs.Math.Bool.{or_assoc}
+use Rattle.std.proofs.lemmas.Bool.{or_left, or_right}
 use Rattle.std.proofs.lemmas.List.Elements.{All-head, All-tail}
 use Rattle.base_laws.specs.Sets.{has}
+use Rattle.base_laws.proofs.ApartLaws.{apart_has, apart_turned}
 use Rattle.base_laws.proofs.BoolLaws.{both, together}
-use Rattle.base_laws.proofs.SetLaws.{has-bit_and, has-bit_or, has-empty, has-single_same}
+use Rattle.base_laws.proofs.SetLaws.{has-bit_or, has-single_same}
 use Rattle.mq_base.specs.declared.attr_set.AttrSet.{AttrSet}
 use Rattle.mq_base.specs.declared.ids.AttrId.{AttrId}
 use Rattle.plan_algebra.specs.Families.{IsBefore, IsFamily, by_least, meets, merged, pair, placed, united, with_all}
 use Rattle.key_clusters.specs.Clusters.{set_of}
 use Rattle.key_clusters.specs.Laws.{are_together}
-
-pub or_first : (x y : Bool) → x ≡ true → (x || y) ≡ true
-or_first x y holds = rw holds refl
-
-pub or_second : (x y : Bool) → y ≡ true → (x || y) ≡ true
-or_second true y holds = refl
-or_second false y holds = holds
-
-or_assoc : (x y z : Bool) → (x || (y || z)) ≡ ((x || y) || z)
-or_assoc true y z = refl
-or_assoc false y z = refl
 
 or_swap : (x y z : Bool) → (x || (y || z)) ≡ (y || (x || z))
 or_swap true true z = refl
@@ -31,24 +23,24 @@ or_swap false y z = refl
 
 -- a set at its place
 placed_here : (p : AttrSet → Bool) (s : AttrSet) (family : List AttrSet) → p s ≡ true → list_any p (placed s family) ≡ true
-placed_here p s [] here = or_first (p s) false here
+placed_here p s [] here = or_left (p s) false here
 placed_here p s (t ∷ rest) here = by_test (is_gt (by_least s t)) (placed_here p s rest here)
   where
     by_test : (b : Bool) → list_any p (placed s rest) ≡ true → list_any p (cond b (t ∷ placed s rest) (s ∷ t ∷ rest)) ≡ true
-    by_test true more = or_second (p t) (list_any p (placed s rest)) more
-    by_test false more = or_first (p s) (list_any p (t ∷ rest)) here
+    by_test true more = or_right (p t) (list_any p (placed s rest)) more
+    by_test false more = or_left (p s) (list_any p (t ∷ rest)) here
 
 placed_kept : (p : AttrSet → Bool) (s : AttrSet) (family : List AttrSet) → list_any p family ≡ true → list_any p (placed s family) ≡ true
 placed_kept p s [] kept = cc
 placed_kept p s (t ∷ rest) kept = by_test (is_gt (by_least s t)) (by_first (p t) refl (placed_kept p s rest))
   where
     by_first : (c : Bool) → p t ≡ c → (list_any p rest ≡ true → list_any p (placed s rest) ≡ true) → list_any p (t ∷ placed s rest) ≡ true
-    by_first true first more = or_first (p t) (list_any p (placed s rest)) first
-    by_first false other more = or_second (p t) (list_any p (placed s rest)) (more (rw other at kept))
+    by_first true first more = or_left (p t) (list_any p (placed s rest)) first
+    by_first false other more = or_right (p t) (list_any p (placed s rest)) (more (rw other at kept))
 
     by_test : (b : Bool) → list_any p (t ∷ placed s rest) ≡ true → list_any p (cond b (t ∷ placed s rest) (s ∷ t ∷ rest)) ≡ true
     by_test true more = more
-    by_test false more = or_second (p s) (list_any p (t ∷ rest)) kept
+    by_test false more = or_right (p s) (list_any p (t ∷ rest)) kept
 
 -- the sets of two families
 pub united-left : (p : AttrSet → Bool) (family other : List AttrSet) → list_any p family ≡ true → list_any p (united family other) ≡ true
@@ -68,7 +60,7 @@ united-right p family (s ∷ rest) kept = by_first (p s) refl (united-right p (p
 with_all_kept : (s : AttrSet) (sets : List AttrSet) (i : ℕ) → has s.0 i ≡ true → has (with_all s sets).0 i ≡ true
 with_all_kept s [] i inside = inside
 with_all_kept s (t ∷ rest) i inside =
-    with_all_kept (record { 0 = bit_or s.0 t.0 }) rest i (has-bit_or s.0 t.0 i ∙ or_first (has s.0 i) (has t.0 i) inside)
+    with_all_kept (record { 0 = bit_or s.0 t.0 }) rest i (has-bit_or s.0 t.0 i ∙ or_left (has s.0 i) (has t.0 i) inside)
 
 with_all_joined : (s : AttrSet) (sets : List AttrSet) (a b : ℕ) → are_together a b sets ≡ true
     → (has (with_all s sets).0 a && has (with_all s sets).0 b) ≡ true
@@ -77,7 +69,7 @@ with_all_joined s (t ∷ rest) a b kept =
     by_first (has t.0 a && has t.0 b) refl (with_all_joined (record { 0 = bit_or s.0 t.0 }) rest a b)
   where
     member : (i : ℕ) → has t.0 i ≡ true → has (with_all (record { 0 = bit_or s.0 t.0 }) rest).0 i ≡ true
-    member i inside = with_all_kept (record { 0 = bit_or s.0 t.0 }) rest i (has-bit_or s.0 t.0 i ∙ or_second (has s.0 i) (has t.0 i) inside)
+    member i inside = with_all_kept (record { 0 = bit_or s.0 t.0 }) rest i (has-bit_or s.0 t.0 i ∙ or_right (has s.0 i) (has t.0 i) inside)
 
     by_first : (c : Bool) → (has t.0 a && has t.0 b) ≡ c
         → (are_together a b rest ≡ true
@@ -100,7 +92,7 @@ parted p q (s ∷ rest) = by_test (q s) (parted p q rest)
         ≡ (list_any p (cond b (s ∷ filter q rest) (filter q rest))
         || list_any p (cond (not b) (s ∷ filter (λ t. not (q t)) rest) (filter (λ t. not (q t)) rest)))
     by_test true more =
-        ap (λ y. p s || y) more ∙ or_assoc (p s) (list_any p (filter q rest)) (list_any p (filter (λ t. not (q t)) rest))
+        ap (λ y. p s || y) more ∙ sym (or_assoc (p s) (list_any p (filter q rest)) (list_any p (filter (λ t. not (q t)) rest)))
     by_test false more =
         ap (λ y. p s || y) more ∙ or_swap (p s) (list_any p (filter q rest)) (list_any p (filter (λ t. not (q t)) rest))
 
@@ -125,21 +117,14 @@ merged-pair c d family =
     placed_here (λ s. has s.0 c.0 && has s.0 d.0) whole (filter (λ s. not (meets (pair c d) s)) family)
     (together (has whole.0 c.0) (has whole.0 d.0)
     (with_all_kept (pair c d) (filter (meets (pair c d)) family) c.0
-    (has-bit_or (2 ^ c.0) (2 ^ d.0) c.0 ∙ or_first (has (2 ^ c.0) c.0) (has (2 ^ d.0) c.0) (has-single_same c.0)))
+    (has-bit_or (2 ^ c.0) (2 ^ d.0) c.0 ∙ or_left (has (2 ^ c.0) c.0) (has (2 ^ d.0) c.0) (has-single_same c.0)))
     (with_all_kept (pair c d) (filter (meets (pair c d)) family) d.0
-    (has-bit_or (2 ^ c.0) (2 ^ d.0) d.0 ∙ or_second (has (2 ^ c.0) d.0) (has (2 ^ d.0) d.0) (has-single_same d.0))))
+    (has-bit_or (2 ^ c.0) (2 ^ d.0) d.0 ∙ or_right (has (2 ^ c.0) d.0) (has (2 ^ d.0) d.0) (has-single_same d.0))))
   where
     whole : AttrSet
     whole = with_all (pair c d) (filter (meets (pair c d)) family)
 
--- a member of a set is none of a set before it
-not_before : (s t i : ℕ) → bit_and s t ≡ 0 → has t i ≡ true → has s i ≡ false
-not_before s t i none inside = left_out (has s i) (has t i) (sym (has-bit_and s t i) ∙ ap (λ n. has n i) none ∙ has-empty i) inside
-  where
-    left_out : (x y : Bool) → (x && y) ≡ false → y ≡ true → x ≡ false
-    left_out false y neither holds = refl
-    left_out true y neither holds = let h : true ≡ false = rw holds at neither in cc
-
+-- members of a set are none of a set before it
 before_both : (s : AttrSet) (rest : List AttrSet) (a b : ℕ) → All (IsBefore s) rest → are_together a b rest ≡ true
     → (has s.0 a ≡ false) × (has s.0 b ≡ false)
 before_both s [] a b before kept = cc
@@ -151,7 +136,7 @@ before_both s (t ∷ rest) a b before kept =
     by_first true first more =
         let sides = both (has t.0 a) (has t.0 b) first in
         let apart = (All-head (IsBefore s) t rest before).apart in
-        (not_before s.0 t.0 a apart sides.0, not_before s.0 t.0 b apart sides.1)
+        (apart_has t.0 s.0 a (apart_turned s.0 t.0 apart) sides.0, apart_has t.0 s.0 b (apart_turned s.0 t.0 apart) sides.1)
     by_first false other more = more (rw other at kept)
 
 -- in a family the set of two attributes that stand in one set is that of both

@@ -10,7 +10,7 @@ use Rattle.mq_base.specs.declared.plan.PlanOp.TheVariants as op
 use Rattle.mq_base.specs.declared.query.Agg.{Agg}
 use Rattle.mq_base.specs.declared.query.Agg.TheVariants.{Sum, Min, Max}
 use Rattle.mq_base.specs.declared.query.CmpOp.{CmpOp}
-use Rattle.mq_base.specs.declared.query.CmpOp.TheVariants.{Eq, Ne, Lt, Le, Gt, Ge}
+use Rattle.mq_base.specs.declared.query.CmpOp.TheVariants.{Eq, Ne}
 use Rattle.mq_base.specs.Nodes.{aggregated}
 use Rattle.plan_algebra.specs.Facts.{node_at}
 use Rattle.plan_algebra.specs.Families.{pair}

@@ -2,9 +2,9 @@ ghost use Rattle.std.specs.Prelude.{◌≡◌, ◌<◌, ◌^◌, All, length, if
 ghost use Rattle.base_laws.specs.Sets.{with_member, with_members};
 ghost use Rattle.key_clusters.specs.Asked.{equated_by, equated_set, extremes, is_extreme, is_order, ordered_by, ordered_set};
 ghost use Rattle.key_clusters.specs.inside.Small.{IsSmallOp};
+ghost use Rattle.mq_base.specs.Small.{IsSmallAgg};
 ghost use Rattle.plan_algebra.specs.Facts.{node_at};
 ghost use Rattle.plan_algebra.specs.Families.{pair};
-ghost use Rattle.plan_algebra.specs.Small.{IsSmallAgg};
 
 use mq_base::{Agg, AttrId, AttrSet, CmpOp, NodeId, PlanOp};
 use plan_algebra::PlanFacts;
@@ -56,7 +56,7 @@ fn ordered_by(op: &PlanOp) -> AttrSet
     ensures { result.0 ≡ ordered_by op.now }
 {
     match op {
-        PlanOp::SelConst(a, cmp, _) => only_if(is_order(*cmp), single(*a)),
+        PlanOp::SelConst(a, cmp, _) => only_if(is_order(*cmp), AttrSet::of(*a)),
         PlanOp::SelAttr(a, cmp, b) => only_if(is_order(*cmp), pair(*a, *b)),
         PlanOp::Join(a, cmp, b) => only_if(is_order(*cmp), pair(*a, *b)),
         PlanOp::Group(_, aggs, _) => extremes(aggs.as_slice()),
@@ -69,7 +69,7 @@ fn equated_by(op: &PlanOp) -> AttrSet
     ensures { result.0 ≡ equated_by op.now }
 {
     match op {
-        PlanOp::SelConst(a, cmp, _) => unless(is_order(*cmp), single(*a)),
+        PlanOp::SelConst(a, cmp, _) => unless(is_order(*cmp), AttrSet::of(*a)),
         PlanOp::SelAttr(a, cmp, b) => unless(is_order(*cmp), pair(*a, *b)),
         PlanOp::Join(a, _, b) => pair(*a, *b),
         PlanOp::Group(by, _, _) => *by,
@@ -107,19 +107,12 @@ fn unless(unwanted: bool, set: AttrSet) -> AttrSet
     if unwanted { AttrSet::EMPTY } else { set }
 }
 
-fn single(a: AttrId) -> AttrSet
-    requires { a.0 < 64 }
-    ensures { result.0 ≡ 2 ^ a.0 }
-{
-    AttrSet::EMPTY.with(a)
-}
-
 fn pair(a: AttrId, b: AttrId) -> AttrSet
     requires left { a.0 < 64 }
     requires right { b.0 < 64 }
     ensures { result ≡ pair a b }
 {
-    AttrSet::EMPTY.with(a).with(b)
+    AttrSet::of(a).with(b)
 }
 
 // The attributes under MIN or MAX.

@@ -44,7 +44,7 @@ fn set_of(family: &[AttrSet], a: AttrId) -> AttrSet
             return *set;
         }
     }
-    AttrSet::EMPTY.with(a)
+    AttrSet::of(a)
 }
 
 // The least member of a set.

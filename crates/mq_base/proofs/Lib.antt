@@ -1,2 +1,3 @@
 pub mod BlockLaws
+mod UsedLaws
 mod QueryExamples

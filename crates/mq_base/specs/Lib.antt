@@ -5,5 +5,6 @@ pub mod Schema
 pub mod Table
 pub mod ValueLaws
 pub mod Nodes
+pub mod Small
 pub mod BoundQuery
 pub mod Refusal

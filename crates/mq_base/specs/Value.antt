@@ -1,9 +1,10 @@
 -- The order of values, and what a cell may hold. docs/FORMATS.md, "Table file", says the limits.
-use Rattle.std.specs.Prelude.{◌≤◌, Bool, pos, negsuc, ◌≤ℤ◌, length}
+use Rattle.std.specs.Prelude.{◌≡◌, ◌≤◌, Bool, true, length}
 use Rattle.std.specs.Ordering.{int_cmp, nat_cmp, eq_by_cmp}
 use Rattle.std.specs.declared.cmp.Ordering.{Ordering}
 use Rattle.std.specs.declared.cmp.Ordering.TheVariants.{Less, Greater}
 use Rattle.std.specs.Cmp.Lexicographic.{slice_cmp}
+use Rattle.base_laws.specs.Ranges.{fits_64_bits}
 use Rattle.mq_base.specs.declared.value.ValueType.{ValueType}
 use Rattle.mq_base.specs.declared.value.ValueType.TheVariants as type
 use Rattle.mq_base.specs.declared.value.Value.{Value}
@@ -23,7 +24,7 @@ type_of (Text t) = type.Text
 
 -- a value that a cell of this type may hold: an INT within 64 bits, a TEXT of at most 120 bytes
 abbrev pub IsCell : ValueType → Value → Type 0
-IsCell type.Int (Int x) = (negsuc 9223372036854775807 ≤ℤ x) × (x ≤ℤ pos 9223372036854775807)
+IsCell type.Int (Int x) = fits_64_bits x ≡ true
 IsCell type.Text (Text t) = length t ≤ 120
 IsCell type.Int (Text t) = ⊥
 IsCell type.Text (Int x) = ⊥

@@ -1,4 +1,4 @@
-ghost use Rattle.std.specs.Prelude.{◌≡◌, ◌<◌, ◌↔◌, IsTrue, MatchOption, bit_and, bit_or};
+ghost use Rattle.std.specs.Prelude.{◌≡◌, ◌<◌, ◌^◌, ◌↔◌, IfSome, IsTrue, MatchOption, bit_and, bit_or};
 ghost use Rattle.base_laws.specs.Sets.{has, with_member, without, IsWithin, IsLeastMember};
 
 use crate::ids::AttrId;
@@ -11,6 +11,14 @@ pub struct AttrSet(pub u64);
 impl AttrSet {
     /// The set without members.
     pub const EMPTY: AttrSet = AttrSet(0);
+
+    /// The set of one attribute.
+    pub fn of(a: AttrId) -> AttrSet
+        requires { a.0 < 64 }
+        ensures { result.0 ≡ 2 ^ a.0 }
+    {
+        AttrSet(1 << a.0)
+    }
 
     /// Whether the attribute is a member.
     pub fn has(self, a: AttrId) -> bool
@@ -63,9 +71,10 @@ impl AttrSet {
         self.0 == 0
     }
 
-    /// The least member, where there is one.
+    /// The least member, where there is one. It is below 64, as all members are.
     pub fn first(self) -> Option<AttrId>
-        ensures { MatchOption result (self.0 ≡ 0) (λ a. IsLeastMember self.0 a.0) }
+        ensures small { IfSome result (λ a. a.0 < 64) }
+        ensures found { MatchOption result (self.0 ≡ 0) (λ a. IsLeastMember self.0 a.0) }
     {
         if self.0 == 0 {
             return None;

@@ -14,6 +14,7 @@ mod schema;
 mod seq;
 mod table;
 mod text;
+mod used;
 mod value;
 
 pub use attr_set::AttrSet;

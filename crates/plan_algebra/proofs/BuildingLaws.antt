@@ -1,12 +1,12 @@
 -- Laws of a plan's list as it grows: it never gets shorter, and what is left of a list of conditions decides what it becomes.
-use Rattle.std.proofs.Common.{◌≡◌, ℕ, zero, suc, ◌+◌, ◌-◌, ◌<◌, ◌≤◌, Bool, true, false, cond, List, [], ◌∷◌, ◌++◌, map, length, get_or, take, drop, Some, None, refl, add-one, arith}
-use Rattle.std.specs.Prelude.{filter, nat_lt, position}
+use Rattle.std.proofs.Common.{◌≡◌, ℕ, ◌+◌, ◌-◌, ◌<◌, ◌≤◌, Bool, true, false, List, [], ◌∷◌, ◌++◌, map, length, get_or, take, drop, Some, None, refl, add-one, arith}
+use Rattle.std.specs.Prelude.{filter, position}
 use Rattle.std.specs.List.{position_or_len}
 use Rattle.std.proofs.lemmas.List.{drop_more, drop_all, take_more, take_rest, length-append, length-map, length_push}
-use Rattle.std.proofs.lemmas.Bool.Decides.{nat_tests}
 use Rattle.std.proofs.lemmas.List.Quantifiers.{position-Some}
 use Rattle.std.proofs.lemmas.List.Sums.{fails_before_first}
 use Rattle.base_laws.proofs.ListLaws.{position-below}
+use Rattle.base_laws.proofs.PlaceLaws.{none_pass, one_passes, past_end}
 use Rattle.mq_base.specs.declared.ids.TableId.{TableId}
 use Rattle.mq_base.specs.declared.plan.PlanNode.{PlanNode}
 use Rattle.mq_base.specs.declared.plan.PlanOp.{PlanOp}
@@ -16,7 +16,7 @@ use Rattle.mq_base.specs.declared.query.Having.{Having}
 use Rattle.mq_base.specs.declared.query.Query.{Query}
 use Rattle.mq_base.specs.declared.schema.Schema.{Schema}
 use Rattle.mq_base.specs.Nodes.{joins}
-use Rattle.plan_algebra.specs.Building.{attached_on, beside_last, branch_on, over_all, over_if, over_kept, over_last, table_on, tables_after, tables_on}
+use Rattle.plan_algebra.specs.inside.Building.{attached_on, beside_last, branch_on, over_all, over_if, over_kept, over_last, table_on, tables_after, tables_on}
 use Rattle.plan_algebra.specs.Nodes.{leaf_node}
 use Rattle.plan_algebra.specs.Plan.{is_about, join_by, kept_by, selection, used_of}
 
@@ -100,25 +100,6 @@ pub tables-end : (schema : Schema) (q : Query) (tables : List TableId) (at : ℕ
 tables-end schema q tables at nodes past = rw (drop_all at tables past) refl
 
 -- the first of the conditions that link a table, and those that follow it
-none_pass : {X : Type 0} (test : X → Bool) (xs : List X) → ((k : ℕ) (d : X) → k < length xs → test (get_or xs k d) ≡ false) → filter test xs ≡ []
-none_pass test [] fails = refl
-none_pass test (x ∷ rest) fails =
-    rw (fails 0 x (omega arith)) (none_pass test rest (λ k d below. fails (suc k) d (omega (arith, below))))
-
-one_passes : {X : Type 0} (test : X → Bool) (xs : List X) (at : ℕ) (d : X) → at < length xs → test (get_or xs at d) ≡ true
-    → ((k : ℕ) → k < at → test (get_or xs k d) ≡ false) → filter test xs ≡ get_or xs at d ∷ filter test (drop (suc at) xs)
-one_passes test [] at d below passes before = absurd (omega arith)
-one_passes test (x ∷ rest) zero d below passes before = rw passes refl
-one_passes test (x ∷ rest) (suc at) d below passes before =
-    rw (before 0 (omega arith)) (one_passes test rest at d (omega arith) passes (λ k earlier. before (suc k) (omega (arith, earlier))))
-
-past_end : (n len : ℕ) → cond (nat_lt n len) (Some n) None ≡ None → len ≤ n
-past_end n len none = by_test (nat_lt n len) refl
-  where
-    by_test : (b : Bool) → nat_lt n len ≡ b → len ≤ n
-    by_test true below = let h : Some n ≡ None = rw below at none in cc
-    by_test false past = grind (arith, nat_tests)
-
 pub attached-none : (schema : Schema) (t : TableId) (test : Cond → Bool) (conds : List Cond) (left : ℕ) (nodes : List PlanNode)
     → position test conds ≡ None → attached_on schema t (filter test conds) left nodes ≡ beside_last op.Product left nodes
 attached-none schema t test conds left nodes none =

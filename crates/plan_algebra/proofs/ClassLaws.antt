@@ -1,16 +1,18 @@
 -- What nodes make of families are families: disjoint sets in the order of their least members.
-use Rattle.std.proofs.Common.{◌≡◌, ◌≢◌, ℕ, zero, suc, ◌^◌, ◌<◌, ◌≤◌, ◌==◌, Bool, true, false, cond, not, ◌||◌, ◌&&◌, List, [], ◌∷◌, length, get_or, All, refl, sym, ◌∙◌, ap, bit_and, bit_or, arith}
+use Rattle.std.proofs.Common.{◌≡◌, ◌≢◌, ℕ, zero, suc, ◌^◌, ◌<◌, ◌==◌, Bool, true, false, cond, not, List, [], ◌∷◌, length, get_or, All, refl, ◌∙◌, ap, bit_and, bit_or, arith}
 use Rattle.std.specs.Prelude.{filter}
 use Rattle.std.specs.Int.{trailing_zeros, w64}
 use Rattle.std.specs.Ordering.{is_gt, nat_cmp}
-use Rattle.std.proofs.lemmas.Bool.{eqb-true}
-use Rattle.std.proofs.lemmas.Bool.Decides.{nat_tests}
+use Rattle.std.proofs.lemmas.Bool.{eqb-true, or_right}
 use Rattle.std.proofs.lemmas.List.Elements.{All-cons, All-filter, All-head, All-nil, All-tail, All-weaker, filter_passes}
 use Rattle.std.proofs.Math.Pow.{pow-lt}
 use Rattle.std.proofs.lemmas.Nat.{le_or_l, or_lt, pow_pos}
 use Rattle.std.proofs.lemmas.Nat.Bits.{bit_at-trailing_zeros}
 use Rattle.base_laws.specs.Sets.{has, IsWithin}
-use Rattle.base_laws.proofs.SetLaws.{empty_from_none, has-bit_and, has-bit_or, has-empty, has-single}
+use Rattle.base_laws.proofs.ApartLaws.{apart_has, apart_turned, apart_within, or_apart}
+use Rattle.base_laws.proofs.NumberLaws.{after_is, upto_is}
+use Rattle.base_laws.proofs.SetLaws.{has-bit_or}
+use Rattle.base_laws.proofs.UnionLaws.{single-within, union-within}
 use Rattle.mq_base.specs.declared.attr_set.AttrSet.{AttrSet}
 use Rattle.mq_base.specs.declared.ids.AttrId.{AttrId}
 use Rattle.mq_base.specs.declared.plan.PlanNode.{PlanNode}
@@ -22,35 +24,6 @@ use Rattle.plan_algebra.specs.declared.kind.Kind.TheVariants as kind
 use Rattle.plan_algebra.specs.Facts.{AreApart, IsFacts, IsFamilyVisible, IsNodeAt, IsOneOn, IsTwoOn, facts_at, node_at, one_facts, product_facts, two_facts}
 use Rattle.plan_algebra.specs.Families.{IsBefore, IsClass, IsFamily, by_least, meets, merged, pair, placed, united, with_all}
 use Rattle.plan_algebra.specs.Kinds.{kind_of}
-
--- sets without a member in common
-apart_has : (s t i : ℕ) → bit_and s t ≡ 0 → has s i ≡ true → has t i ≡ false
-apart_has s t i none inside = not_both (has t i) (sym (has-bit_and s t i) ∙ ap (λ n. has n i) none ∙ has-empty i) inside
-  where
-    not_both : (y : Bool) → (has s i && y) ≡ false → has s i ≡ true → y ≡ false
-    not_both true both here = let h : true ≡ false = rw here at both in cc
-    not_both false both here = refl
-
-apart_from : (s t : ℕ) → ((i : ℕ) → has s i ≡ true → has t i ≡ false) → bit_and s t ≡ 0
-apart_from s t none = empty_from_none (bit_and s t) (λ i. has-bit_and s t i ∙ by_test i (has s i) refl)
-  where
-    by_test : (i : ℕ) (b : Bool) → has s i ≡ b → (b && has t i) ≡ false
-    by_test i true inside = none i inside
-    by_test i false outside = refl
-
-apart_turned : (s t : ℕ) → bit_and s t ≡ 0 → bit_and t s ≡ 0
-apart_turned s t none = apart_from t s (λ i inside. by_test i (has s i) refl inside)
-  where
-    by_test : (i : ℕ) (b : Bool) → has s i ≡ b → has t i ≡ true → has s i ≡ false
-    by_test i true here inside = let h = apart_has s t i none here in cc
-    by_test i false outside inside = outside
-
-apart_within : (s t v w : ℕ) → bit_and v w ≡ 0 → IsWithin s v → IsWithin t w → bit_and s t ≡ 0
-apart_within s t v w none in_v in_w = apart_from s t (λ i inside. by_test i (has t i) refl (apart_has v w i none (in_v.member i inside)))
-  where
-    by_test : (i : ℕ) (b : Bool) → has t i ≡ b → has w i ≡ false → has t i ≡ false
-    by_test i true here outside = let h = in_w.member i here in cc
-    by_test i false here outside = here
 
 -- the least members of two classes that have none in common differ
 least_inside : (s : AttrSet) → IsClass s → has s.0 (trailing_zeros w64 s.0) ≡ true
@@ -71,12 +44,6 @@ placed_all P s (t ∷ rest) here all = by_test (is_gt (by_least s t)) (placed_al
     by_test : (b : Bool) → All P (placed s rest) → All P (cond b (t ∷ placed s rest) (s ∷ t ∷ rest))
     by_test true more = All-cons P t (placed s rest) (All-head P t rest all) more
     by_test false more = All-cons P s (t ∷ rest) here all
-
-after_is : (m n : ℕ) → is_gt (nat_cmp m n) ≡ true → n < m
-after_is m n test = grind (arith, nat_tests)
-
-upto_is : (m n : ℕ) → is_gt (nat_cmp m n) ≡ false → m ≤ n
-upto_is m n test = grind (arith, nat_tests)
 
 abbrev IsApartFrom : AttrSet → AttrSet → Type 0
 IsApartFrom s t = bit_and s.0 t.0 ≡ 0
@@ -140,13 +107,6 @@ with_all-class s (t ∷ rest) class all =
     let here : IsClass t = All-head IsClass t rest all in
     with_all-class (record { 0 = bit_or s.0 t.0 }) rest
     (record { some = omega (arith, class.some, le_or_l s.0 t.0); small = or_lt 64 s.0 t.0 class.small here.small }) (All-tail IsClass t rest all)
-
-or_apart : (s t u : ℕ) → bit_and s u ≡ 0 → bit_and t u ≡ 0 → bit_and (bit_or s t) u ≡ 0
-or_apart s t u first second = apart_from (bit_or s t) u (λ i inside. by_test i (has s i) refl (sym (has-bit_or s t i) ∙ inside))
-  where
-    by_test : (i : ℕ) (b : Bool) → has s i ≡ b → (has s i || has t i) ≡ true → has u i ≡ false
-    by_test i true here inside = apart_has s u i first here
-    by_test i false out inside = apart_has t u i second (rw out at inside)
 
 with_all-apart : (u s : AttrSet) (sets : List AttrSet) → IsApartFrom s u → All (λ t. IsApartFrom t u) sets → IsApartFrom (with_all s sets) u
 with_all-apart u s [] here all = here
@@ -232,27 +192,17 @@ node-family nodes facts n are inside = families_below nodes facts are (suc n) n 
 abbrev pub AreWithin : ℕ → List AttrSet → Type 0
 AreWithin visible family = All (λ (s : AttrSet). IsWithin s.0 visible) family
 
-or_within : (s t v : ℕ) → IsWithin s v → IsWithin t v → IsWithin (bit_or s t) v
-or_within s t v first second = record { member = λ i inside. by_test i (has s i) refl (sym (has-bit_or s t i) ∙ inside) }
-  where
-    by_test : (i : ℕ) (b : Bool) → has s i ≡ b → (has s i || has t i) ≡ true → has v i ≡ true
-    by_test i true here inside = first.member i here
-    by_test i false out inside = second.member i (rw out at inside)
-
 with_all-within : (v : ℕ) (s : AttrSet) (sets : List AttrSet) → IsWithin s.0 v → AreWithin v sets → IsWithin (with_all s sets).0 v
 with_all-within v s [] here all = here
 with_all-within v s (t ∷ rest) here all =
-    with_all-within v (record { 0 = bit_or s.0 t.0 }) rest (or_within s.0 t.0 v here (All-head (λ (s : AttrSet). IsWithin s.0 v) t rest all))
+    with_all-within v (record { 0 = bit_or s.0 t.0 }) rest (union-within s.0 t.0 v here (All-head (λ (s : AttrSet). IsWithin s.0 v) t rest all))
     (All-tail (λ (s : AttrSet). IsWithin s.0 v) t rest all)
-
-single_within : (a v : ℕ) → has v a ≡ true → IsWithin (2 ^ a) v
-single_within a v inside = record { member = λ i here. rw (← eqb-true a i (sym (has-single a i) ∙ here)) inside }
 
 pub merged-within : (v : ℕ) (a b : AttrId) (family : List AttrSet) → has v a.0 ≡ true → has v b.0 ≡ true → AreWithin v family → AreWithin v (merged a b family)
 merged-within v a b family left right all =
     placed_all (λ (s : AttrSet). IsWithin s.0 v) (with_all (pair a b) (filter (meets (pair a b)) family)) (filter (λ s. not (meets (pair a b) s)) family)
     (with_all-within v (pair a b) (filter (meets (pair a b)) family)
-    (or_within (2 ^ a.0) (2 ^ b.0) v (single_within a.0 v left) (single_within b.0 v right))
+    (union-within (2 ^ a.0) (2 ^ b.0) v (single-within a.0 v left) (single-within b.0 v right))
     (All-filter (meets (pair a b)) (λ (s : AttrSet). IsWithin s.0 v) family all))
     (All-filter (λ s. not (meets (pair a b) s)) (λ (s : AttrSet). IsWithin s.0 v) family all)
 
@@ -263,10 +213,6 @@ united-within v family (u ∷ rest) all more =
     (placed_all (λ (s : AttrSet). IsWithin s.0 v) u family (All-head (λ (s : AttrSet). IsWithin s.0 v) u rest more) all)
     (All-tail (λ (s : AttrSet). IsWithin s.0 v) u rest more)
 
-or_second : (x y : Bool) → y ≡ true → (x || y) ≡ true
-or_second true y holds = refl
-or_second false y holds = holds
-
 left_within : (v w : ℕ) (family : List AttrSet) → AreWithin v family → AreWithin (bit_or v w) family
 left_within v w family all =
     All-weaker (λ (s : AttrSet). IsWithin s.0 v) (λ (s : AttrSet). IsWithin s.0 (bit_or v w))
@@ -275,7 +221,7 @@ left_within v w family all =
 right_within : (v w : ℕ) (family : List AttrSet) → AreWithin w family → AreWithin (bit_or v w) family
 right_within v w family all =
     All-weaker (λ (s : AttrSet). IsWithin s.0 w) (λ (s : AttrSet). IsWithin s.0 (bit_or v w))
-    (λ s within. record { member = λ i inside. has-bit_or v w i ∙ or_second (has v i) (has w i) (within.member i inside) }) family all
+    (λ s within. record { member = λ i inside. has-bit_or v w i ∙ or_right (has v i) (has w i) (within.member i inside) }) family all
 
 pub product-visible : (f g : NodeFacts) → IsFamilyVisible f → IsFamilyVisible g → IsFamilyVisible (product_facts f g)
 product-visible f g left right =
@@ -286,7 +232,7 @@ two_kept op.Product f g on kept = kept
 two_kept (op.Join a cmp b) f g on kept =
     merged-within (bit_or f.visible.0 g.visible.0) a b (united f.eq g.eq)
     (has-bit_or f.visible.0 g.visible.0 a.0 ∙ rw on.1.visible refl)
-    (has-bit_or f.visible.0 g.visible.0 b.0 ∙ or_second (has f.visible.0 b.0) (has g.visible.0 b.0) on.2.visible) kept
+    (has-bit_or f.visible.0 g.visible.0 b.0 ∙ or_right (has f.visible.0 b.0) (has g.visible.0 b.0) on.2.visible) kept
 two_kept _ f g on kept = absurd on
 
 pub two-visible : (o : PlanOp) (f g : NodeFacts) → IsTwoOn o f g → IsFamilyVisible f → IsFamilyVisible g → IsFamilyVisible (two_facts o f g)

@@ -17,7 +17,7 @@ use Rattle.mq_base.specs.BoundQuery.{AreDistinct, IsBareOrGrouped, IsBound, IsBo
 use Rattle.mq_base.specs.Nodes.{is_of, is_of_some, joins, node_count, one_if, projects, selected_set, unjoined, unjoined_after}
 use Rattle.plan_algebra.specs.Plan.{attached, branch, grouping, is_about, join_by, joined, joined_after, kept_by, over, plan_tree, projection, selection, used_of}
 use Rattle.plan_algebra.specs.Tree.{Tree, Leaf, One, Two, size}
-use Rattle.plan_algebra.specs.Building.{plan_nodes}
+use Rattle.plan_algebra.specs.inside.Building.{plan_nodes}
 use Rattle.plan_algebra.proofs.PlanLaws.{nodes-length, plan-tree}
 use Rattle.plan_algebra.proofs.SmallLaws.{is_of-owned}
 

@@ -3,10 +3,10 @@ use Rattle.std.proofs.Common.{◌≡◌, ℕ, ◌+◌, ◌<◌, ◌≤◌, Bool,
 use Rattle.std.specs.Prelude.{filter}
 use Rattle.std.specs.Int.{trailing_zeros, w64}
 use Rattle.std.specs.List.{insert}
-use Rattle.std.specs.Ordering.{is_gt, nat_cmp}
-use Rattle.std.proofs.lemmas.Bool.Decides.{nat_tests}
+use Rattle.std.specs.Ordering.{is_gt}
 use Rattle.std.proofs.lemmas.List.{drop_more, drop_all, take_more, take_all, append-nil}
 use Rattle.std.proofs.lemmas.List.Elements.{filter_more}
+use Rattle.base_laws.proofs.NumberLaws.{after_test, upto_test}
 use Rattle.mq_base.specs.declared.attr_set.AttrSet.{AttrSet}
 use Rattle.plan_algebra.specs.Families.{by_least, meets, placed, united, with_all}
 
@@ -43,12 +43,6 @@ pub united-end : (family other : List AttrSet) (i : ℕ) → length other ≤ i 
 united-end family other i past = rw (drop_all i other past) refl
 
 -- past a set that is before another
-after_test : (m n : ℕ) → n < m → is_gt (nat_cmp m n) ≡ true
-after_test m n below = grind (arith, nat_tests)
-
-upto_test : (m n : ℕ) → m ≤ n → is_gt (nat_cmp m n) ≡ false
-upto_test m n upto = grind (arith, nat_tests)
-
 pub placed-more : (s : AttrSet) (family : List AttrSet) (i : ℕ) (d : AttrSet) → i < length family
     → trailing_zeros w64 (get_or family i d).0 < trailing_zeros w64 s.0
     → take i family ++ placed s (drop i family) ≡ take (i + 1) family ++ placed s (drop (i + 1) family)

@@ -2,6 +2,7 @@
 use Rattle.std.proofs.Common.{◌≡◌, ℕ, ◌<◌, ◌≤◌, Bool, true, false, ◌||◌, ◌&&◌, cond, List, [], ◌∷◌, ◌++◌, map, length, get_or, All, Option, Some, None, refl, sym, ◌∙◌, ap, eq-eqb, bit_and, append_assoc, arith}
 use Rattle.std.specs.Prelude.{◌↔◌, IfSome, filter, slice_get}
 use Rattle.std.specs.Option.{option_map_or}
+use Rattle.std.proofs.lemmas.Bool.{and_parts}
 use Rattle.std.proofs.lemmas.List.Elements.{All-filter, All-head, All-map, All-nil, All-tail, All-weaker, filter_passes}
 use Rattle.std.proofs.lemmas.List.{append-nil}
 use Rattle.std.proofs.lemmas.Option.{slice_get-get_or}
@@ -90,14 +91,6 @@ sees : (schema : Schema) (q : Query) (of : AttrId → Bool) (x : Tree) (a : Attr
     → IsVisible (facts_of x) a
 sees schema q of x a tables used inside = record { small = used.small; visible = tables.visible a ∙ rw (used.used, inside) refl }
 
-and_first : (x y : Bool) → (x && y) ≡ true → x ≡ true
-and_first true y holds = refl
-and_first false y holds = cc
-
-and_second : (x y : Bool) → (x && y) ≡ true → y ≡ true
-and_second true y holds = holds
-and_second false y holds = cc
-
 -- the attributes of a condition are of these
 abbrev IsOfCond : (AttrId → Bool) → Cond → Type 0
 IsOfCond of (cond.Const a cmp v) = of a ≡ true
@@ -151,7 +144,7 @@ columns_is schema t a ok below = by_info (slice_get schema.tables t.0) (ok.liste
 
 about_inside : (schema : Schema) (t : TableId) (c : Cond) → is_about schema t c ≡ true → IsOfCond (is_of schema t.0) c
 about_inside schema t (cond.Const a cmp v) holds = holds
-about_inside schema t (cond.Attrs a cmp b) holds = (and_first _ _ holds, and_second _ _ holds)
+about_inside schema t (cond.Attrs a cmp b) holds = and_parts _ _ holds
 
 branch_of : (schema : Schema) (q : Query) (t : TableId) → IsSchema schema → t.0 < length schema.tables → All (IsUsedCond q) q.conds
     → HasTables schema q (is_of schema t.0) (branch schema q t)

@@ -5,7 +5,7 @@ use Rattle.base_laws.specs.Folds.{union_to}
 use Rattle.mq_base.specs.declared.plan.PlanNode.{PlanNode}
 use Rattle.plan_algebra.specs.declared.facts.NodeFacts.{NodeFacts}
 use Rattle.plan_algebra.specs.Facts.{leaf_set, node_at}
-use Rattle.plan_algebra.specs.Gathering.{AllStand, Stands, facts_after, node_facts}
+use Rattle.plan_algebra.specs.inside.Gathering.{AllStand, Stands, facts_after, node_facts}
 
 -- past a node
 pub facts-more : (facts : List NodeFacts) (nodes : List PlanNode) (i : ℕ) (d : PlanNode) → i < length nodes

@@ -1,8 +1,11 @@
 -- The group, the conditions of HAVING and the projection stand on what they name, so the whole plan of a bound query is one.
 use Rattle.std.proofs.Common.{◌≡◌, ℕ, Bool, true, false, List, [], ◌∷◌, ◌++◌, map, length, All, ◌⊎◌, inl, inr, refl, sym, ◌∙◌, ap, arith}
 use Rattle.std.specs.Prelude.{filter_map, if◌then◌else◌}
+use Rattle.std.proofs.lemmas.Bool.{or_left, or_right}
 use Rattle.std.proofs.lemmas.List.Elements.{All-map, All-weaker}
 use Rattle.base_laws.specs.Sets.{has}
+use Rattle.base_laws.proofs.ListedLaws.{all_mapped, is_in}
+use Rattle.base_laws.proofs.PlaceLaws.{listed_at}
 use Rattle.base_laws.proofs.SetLaws.{has-bit_and, has-with_members}
 use Rattle.mq_base.specs.declared.ids.AttrId.{AttrId}
 use Rattle.mq_base.specs.declared.plan.PlanNode.{PlanNode}
@@ -26,8 +29,8 @@ use Rattle.plan_algebra.proofs.CountLaws.{plan-size}
 use Rattle.plan_algebra.proofs.FormedLaws.{HasTables, IsSelectionOn, joined_of, over-formed}
 use Rattle.plan_algebra.proofs.PlanLaws.{nodes-length}
 use Rattle.plan_algebra.proofs.StandLaws.{tree_back}
-use Rattle.plan_algebra.proofs.SmallLaws.{is_of_some-small, listed_at}
-use Rattle.plan_algebra.proofs.UsesLaws.{IsItemOf, all_items, all_mapped, all_used, is_in, or_true, selected-within, true_or, used-agg, used-group, used-item}
+use Rattle.plan_algebra.proofs.SmallLaws.{is_of_some-small}
+use Rattle.plan_algebra.proofs.UsesLaws.{IsItemOf, all_items, all_used, selected-within, used-agg, used-group, used-item}
 
 -- operations after others
 over-append : (ops more : List PlanOp) (x : Tree) → over (ops ++ more) x ≡ over more (over ops x)
@@ -79,10 +82,10 @@ abbrev the_group : Query → PlanOp
 the_group q = op.Group q.group q.aggs q.count
 
 in_group : (q : Query) (a : ℕ) → has q.group.0 a ≡ true → has (group_set q.group q.aggs) a ≡ true
-in_group q a inside = has-with_members q.group.0 (aggregated q.aggs) a ∙ true_or _ _ inside
+in_group q a inside = has-with_members q.group.0 (aggregated q.aggs) a ∙ or_left _ _ inside
 
 in_aggs : (q : Query) (a : ℕ) → is_in (aggregated q.aggs) a ≡ true → has (group_set q.group q.aggs) a ≡ true
-in_aggs q a inside = has-with_members q.group.0 (aggregated q.aggs) a ∙ or_true _ _ inside
+in_aggs q a inside = has-with_members q.group.0 (aggregated q.aggs) a ∙ or_right _ _ inside
 
 left_by : (q : Query) (x : Tree) (a : ℕ) → has (facts_of x).visible.0 a ≡ true → has (group_set q.group q.aggs) a ≡ true
     → has (facts_of (One (the_group q) x)).visible.0 a ≡ true

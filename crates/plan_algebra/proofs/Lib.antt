@@ -1,10 +1,9 @@
 mod BuildingLaws
-mod ClassLaws
+pub mod ClassLaws
 mod FamilyLaws
 mod Examples
-mod PlanLaws
+pub mod PlanLaws
 mod TreeLaws
-mod UsedLaws
 mod SmallLaws
 mod StandLaws
 mod CountLaws
@@ -12,6 +11,9 @@ mod UsesLaws
 mod FormedLaws
 mod GatherLaws
 mod GroupedLaws
+mod LeavesLaws
+mod LeafTableLaws
 mod MeaningLawsTables
 mod MeaningExamples
 mod MeaningLaws
+pub mod VisibleLaws

@@ -1,13 +1,12 @@
 -- The tree of the tables means their product, kept by all conditions: conditions pushed to branches, joins where a
 -- condition links a table with earlier ones.
 use Rattle.std.proofs.Common.{◌≡◌, ◌≢◌, refl, sym, ◌∙◌, ap, ℕ, Bool, true, false, cond as choice, ◌&&◌, ◌||◌, List, [], ◌∷◌, ◌++◌, map, filter, fold, All, Option, Some, None, ◌==◌}
-use Rattle.std.specs.List.{list_any, list_all, AllByRecursion}
+use Rattle.std.specs.List.{AllByRecursion}
 use Rattle.std.specs.Option.{option_map_or}
 use Rattle.std.proofs.lemmas.Bool.{eqb-true}
 use Rattle.std.proofs.lemmas.List.{append-nil, append_assoc}
 use Rattle.std.proofs.lemmas.List.Elements.{All-head, All-tail, filter_agree}
 use Rattle.base_laws.proofs.FilterLaws.{each_leads, each_append, each_map, each_filter, each_passes, each_always, filter_whole, filter_and}
-use Rattle.mq_base.specs.declared.ids.AttrId.{AttrId}
 use Rattle.mq_base.specs.declared.ids.TableId.{TableId}
 use Rattle.mq_base.specs.declared.plan.PlanOp.{PlanOp}
 use Rattle.mq_base.specs.declared.plan.PlanOp.TheVariants as op
@@ -17,7 +16,7 @@ use Rattle.mq_base.specs.declared.query.Cond.TheVariants as cond
 use Rattle.mq_base.specs.declared.query.Query.{Query}
 use Rattle.mq_base.specs.declared.schema.Schema.{Schema}
 use Rattle.mq_base.specs.BoundQuery.{AreDistinct}
-use Rattle.mq_base.specs.Nodes.{is_of, is_of_some, joins, cond_attributes}
+use Rattle.mq_base.specs.Nodes.{is_of, joins}
 use Rattle.mq_base.specs.Schema.{table_of}
 use Rattle.row_algebra.specs.Contents.{owns, some_owns, HaveOwnCells}
 use Rattle.row_algebra.specs.Laws.{names_only, AreApart}

@@ -10,7 +10,7 @@ use Rattle.mq_base.specs.declared.query.Cond.{Cond}
 use Rattle.mq_base.specs.declared.query.Query.{Query}
 use Rattle.mq_base.specs.declared.schema.Schema.{Schema}
 use Rattle.mq_base.specs.Nodes.{joins}
-use Rattle.plan_algebra.specs.Building.{attached_on, beside_last, branch_on, over_all, over_last, plan_nodes, table_on, tables_after, tables_on}
+use Rattle.plan_algebra.specs.inside.Building.{attached_on, beside_last, branch_on, over_all, over_last, plan_nodes, table_on, tables_after, tables_on}
 use Rattle.plan_algebra.specs.Nodes.{last_of, nodes_of, one_node, two_node}
 use Rattle.plan_algebra.specs.Plan.{attached, branch, grouping, is_about, join_by, joined, joined_after, over, plan_tree, projection, selection, used_of}
 use Rattle.plan_algebra.specs.Tree.{Tree, Leaf, One, Two, size}

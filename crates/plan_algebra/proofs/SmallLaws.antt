@@ -1,10 +1,11 @@
 -- The attributes of a bound query's tables: they are attributes of the schema, below 64, each of one table.
-use Rattle.std.proofs.Common.{◌≡◌, ℕ, ◌<◌, ◌==◌, Bool, true, false, List, [], ◌∷◌, Option, Some, None, All, ◌⊎◌, inl, inr, refl, ◌∙◌, ap, arith}
+use Rattle.std.proofs.Common.{◌≡◌, ℕ, ◌<◌, ◌==◌, Bool, true, false, List, [], ◌∷◌, Option, Some, None, length, All, ◌⊎◌, inl, inr, refl, ◌∙◌, ap, arith}
 use Rattle.std.specs.Prelude.{slice_get}
 use Rattle.std.proofs.lemmas.Bool.{eqb-true}
-use Rattle.std.proofs.lemmas.Option.{get_or_from_slice_get, slice_get_within}
+use Rattle.std.proofs.lemmas.Option.{slice_get_within}
 use Rattle.std.proofs.lemmas.List.Elements.{All-nil, All-same, All-weaker}
 use Rattle.base_laws.specs.Sets.{has}
+use Rattle.base_laws.proofs.PlaceLaws.{listed_at}
 use Rattle.mq_base.specs.declared.ids.AttrId.{AttrId}
 use Rattle.mq_base.specs.declared.ids.TableId.{TableId}
 use Rattle.mq_base.specs.declared.query.Agg.{Agg}
@@ -18,15 +19,15 @@ use Rattle.mq_base.specs.declared.schema.Schema.{Schema}
 use Rattle.mq_base.specs.BoundQuery.{IsAggregated, IsBareItem, IsBareOrGrouped, IsBound, IsBoundAgg, IsBoundCond, IsGroupedItem, IsOfTables}
 use Rattle.mq_base.specs.Nodes.{is_of, is_of_some}
 use Rattle.mq_base.specs.Schema.{IsSchema, table_of}
-use Rattle.plan_algebra.specs.Small.{AreSmall, IsSmallAgg, IsSmallCond, IsSmallItem}
+use Rattle.mq_base.specs.Small.{HasSmallIds, IsSmallAgg, IsSmallCond, IsSmallItem}
 
 -- an attribute of a table is one of the schema
-owned-small : (schema : Schema) (a t : ℕ) → IsSchema schema → table_of schema a ≡ Some t → a < 64
-owned-small schema a t ok owned = by_info (slice_get schema.attrs a) refl
+owned-within : (schema : Schema) (a t : ℕ) → table_of schema a ≡ Some t → a < length schema.attrs
+owned-within schema a t owned = by_info (slice_get schema.attrs a) refl
   where
-    by_info : (o : Option AttrInfo) → slice_get schema.attrs a ≡ o → a < 64
+    by_info : (o : Option AttrInfo) → slice_get schema.attrs a ≡ o → a < length schema.attrs
     by_info None none = let h : None ≡ Some t = rw none at owned in cc
-    by_info (Some info) got = omega (arith, slice_get_within schema.attrs a info got, ok.few_attributes)
+    by_info (Some info) got = slice_get_within schema.attrs a info got
 
 -- the table of an attribute that is one of this table
 pub is_of-owned : (schema : Schema) (t : ℕ) (a : AttrId) → is_of schema t a ≡ true → table_of schema a.0 ≡ Some t
@@ -38,22 +39,18 @@ is_of-owned schema t a holds = by_owner (table_of schema a.0) refl
         let h : (owner == t) ≡ true = rw some at holds in
         some ∙ ap Some (eqb-true owner t h)
 
-pub is_of-small : (schema : Schema) (t : ℕ) (a : AttrId) → IsSchema schema → is_of schema t a ≡ true → a.0 < 64
-is_of-small schema t a ok holds = owned-small schema a.0 t ok (is_of-owned schema t a holds)
-
-pub is_of_some-small : (schema : Schema) (tables : List TableId) (a : AttrId) → IsSchema schema → is_of_some schema tables a ≡ true → a.0 < 64
-is_of_some-small schema [] a ok holds = cc
-is_of_some-small schema (t ∷ rest) a ok holds = by_test (is_of schema t.0 a) refl (is_of_some-small schema rest a ok)
+pub is_of_some-within : (schema : Schema) (tables : List TableId) (a : AttrId) → is_of_some schema tables a ≡ true → a.0 < length schema.attrs
+is_of_some-within schema [] a holds = cc
+is_of_some-within schema (t ∷ rest) a holds = by_test (is_of schema t.0 a) refl (is_of_some-within schema rest a)
   where
-    by_test : (b : Bool) → is_of schema t.0 a ≡ b → (is_of_some schema rest a ≡ true → a.0 < 64) → a.0 < 64
-    by_test true first later = is_of-small schema t.0 a ok first
+    by_test : (b : Bool) → is_of schema t.0 a ≡ b → (is_of_some schema rest a ≡ true → a.0 < length schema.attrs) → a.0 < length schema.attrs
+    by_test true first later = owned-within schema a.0 t.0 (is_of-owned schema t.0 a first)
     by_test false other later = later (rw other at holds)
 
--- an attribute under a function is one of the query's tables
-pub listed_at : {X : Type 0} (P : X → Type 0) (xs : List X) (place : ℕ) (x : X) → All P xs → slice_get xs place ≡ Some x → P x
-listed_at P xs place x all got =
-    rw (get_or_from_slice_get xs place x x got) at (all place x (slice_get_within xs place x got))
+pub is_of_some-small : (schema : Schema) (tables : List TableId) (a : AttrId) → IsSchema schema → is_of_some schema tables a ≡ true → a.0 < 64
+is_of_some-small schema tables a ok holds = omega (arith, is_of_some-within schema tables a holds, ok.few_attributes)
 
+-- an attribute under a function is one of the query's tables
 pub agg-of : (schema : Schema) (q : Query) (a : AttrId) → All (IsBoundAgg schema q) q.aggs → IsAggregated q.aggs a → IsOfTables schema q.tables a
 agg-of schema q a all (func, place, got) = (listed_at (IsBoundAgg schema q) q.aggs place (a, func) all got).used
 
@@ -80,13 +77,13 @@ small_agg : (schema : Schema) (q : Query) → IsSchema schema → (p : AttrId ×
 small_agg schema q ok p bound = is_of_some-small schema q.tables p.0 ok bound.used
 
 -- each id of a bound query is below 64
-pub query-small : (schema : Schema) (q : Query) → IsSchema schema → IsBound schema q → AreSmall q
+pub query-small : (schema : Schema) (q : Query) → IsSchema schema → IsBound schema q → HasSmallIds q
 query-small schema q ok bound = by_kind q.grouped bound.selected
   where
     conds : All IsSmallCond q.conds
     conds = All-weaker (IsBoundCond schema q.tables) IsSmallCond (small_cond schema q.tables ok) q.conds bound.conds
 
-    by_kind : (b : Bool) → IsBareOrGrouped b schema q → AreSmall q
+    by_kind : (b : Bool) → IsBareOrGrouped b schema q → HasSmallIds q
     by_kind false bare = record {
       items = All-weaker (IsBareItem schema q) IsSmallItem (bare_item schema q ok) q.items bare.items;
       conds = conds;

@@ -9,7 +9,7 @@ use Rattle.plan_algebra.specs.declared.facts.NodeFacts.{NodeFacts}
 use Rattle.plan_algebra.specs.declared.kind.Kind.{Kind}
 use Rattle.plan_algebra.specs.declared.kind.Kind.TheVariants as kind
 use Rattle.plan_algebra.specs.Facts.{IsFacts, IsFormed, IsNodeAt, IsOneOn, IsPlan, IsTwoOn, facts_at, facts_of, leaf_facts, node_at}
-use Rattle.plan_algebra.specs.Gathering.{AllStand, Stands, StandsBy, facts_after, facts_by, node_facts}
+use Rattle.plan_algebra.specs.inside.Gathering.{AllStand, Stands, StandsBy, facts_after, facts_by, node_facts}
 use Rattle.plan_algebra.specs.Kinds.{kind_of}
 use Rattle.plan_algebra.specs.Nodes.{last_of, leaf_node, nodes_of, one_node, subtrees, tree_at, tree_of, trees_after, two_node}
 use Rattle.plan_algebra.specs.Tree.{Tree, Leaf, One, Two, size}

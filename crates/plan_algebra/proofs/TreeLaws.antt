@@ -9,7 +9,7 @@ use Rattle.plan_algebra.specs.declared.facts.NodeFacts.{NodeFacts}
 use Rattle.plan_algebra.specs.declared.kind.Kind.{Kind}
 use Rattle.plan_algebra.specs.declared.kind.Kind.TheVariants as kind
 use Rattle.plan_algebra.specs.Facts.{IsPlan, node_at}
-use Rattle.plan_algebra.specs.Gathering.{AllStand, StandsBy, node_facts}
+use Rattle.plan_algebra.specs.inside.Gathering.{AllStand, StandsBy, node_facts}
 use Rattle.plan_algebra.specs.Kinds.{IsTreeAt, kind_by, kind_of}
 use Rattle.plan_algebra.specs.Nodes.{leaf_node, tree_at, tree_by, trees_after}
 use Rattle.plan_algebra.specs.Tree.{Tree, Leaf, One, Two}

@@ -1,10 +1,11 @@
 -- Which attributes are used: all that the query names, each in the list that names it.
-use Rattle.std.proofs.Common.{◌≡◌, ◌≢◌, ℕ, ◌<◌, ◌==◌, Bool, true, false, ◌||◌, List, [], ◌∷◌, ◌++◌, map, All, refl, sym, ◌∙◌, ap, eq-eqb}
+use Rattle.std.proofs.Common.{◌≡◌, ◌≢◌, ℕ, ◌<◌, ◌==◌, Bool, true, false, ◌||◌, List, [], ◌∷◌, ◌++◌, All, refl, sym, ◌∙◌, ap}
 use Rattle.std.specs.Prelude.{filter_map}
-use Rattle.std.specs.List.{flat_map, list_any}
-use Rattle.std.proofs.lemmas.Bool.{eqb-true}
+use Rattle.std.specs.List.{flat_map}
+use Rattle.std.proofs.lemmas.Bool.{eqb-true, or_left, or_right}
 use Rattle.std.proofs.lemmas.List.Elements.{All-cons, All-head, All-nil, All-tail, All-weaker}
 use Rattle.base_laws.specs.Sets.{has, with_members, IsWithin}
+use Rattle.base_laws.proofs.ListedLaws.{in_head, in_right, is_in}
 use Rattle.base_laws.proofs.SetLaws.{has-empty, has-with_members}
 use Rattle.mq_base.specs.declared.ids.AttrId.{AttrId}
 use Rattle.mq_base.specs.declared.query.Cond.{Cond}
@@ -18,32 +19,6 @@ use Rattle.mq_base.specs.Nodes.{aggregated, cond_attributes, item_attribute, sel
 use Rattle.mq_base.specs.Schema.{IsSchema}
 use Rattle.plan_algebra.proofs.SmallLaws.{is_of_some-small}
 
--- whether a number is one of a list
-abbrev pub is_in : List ℕ → ℕ → Bool
-is_in xs a = list_any (λ k. k == a) xs
-
-pub or_true : (x y : Bool) → y ≡ true → (x || y) ≡ true
-or_true true y holds = refl
-or_true false y holds = holds
-
-pub true_or : (x y : Bool) → x ≡ true → (x || y) ≡ true
-true_or x y holds = rw holds refl
-
-in_left : (xs ys : List ℕ) (a : ℕ) → is_in xs a ≡ true → is_in (xs ++ ys) a ≡ true
-in_left [] ys a inside = cc
-in_left (x ∷ rest) ys a inside = by_test (x == a) inside (in_left rest ys a)
-  where
-    by_test : (b : Bool) → (b || is_in rest a) ≡ true → (is_in rest a ≡ true → is_in (rest ++ ys) a ≡ true) → (b || is_in (rest ++ ys) a) ≡ true
-    by_test true here later = refl
-    by_test false here later = later here
-
-in_right : (xs ys : List ℕ) (a : ℕ) → is_in ys a ≡ true → is_in (xs ++ ys) a ≡ true
-in_right [] ys a inside = inside
-in_right (x ∷ rest) ys a inside = or_true (x == a) (is_in (rest ++ ys) a) (in_right rest ys a inside)
-
-in_head : (a : ℕ) (rest : List ℕ) → is_in (a ∷ rest) a ≡ true
-in_head a rest = true_or (a == a) (is_in rest a) (eq-eqb a a refl)
-
 -- the attributes of a condition are among these
 abbrev IsNamedIn : List ℕ → Cond → Type 0
 IsNamedIn members (cond.Const a op x) = is_in members a.0 ≡ true
@@ -51,7 +26,7 @@ IsNamedIn members (cond.Attrs a op b) = (is_in members a.0 ≡ true) × (is_in m
 
 named_here : (c : Cond) (rest : List ℕ) → IsNamedIn (cond_attributes c ++ rest) c
 named_here (cond.Const a op x) rest = in_head a.0 rest
-named_here (cond.Attrs a op b) rest = (in_head a.0 (b.0 ∷ rest), or_true (a.0 == b.0) (is_in (b.0 ∷ rest) b.0) (in_head b.0 rest))
+named_here (cond.Attrs a op b) rest = (in_head a.0 (b.0 ∷ rest), or_right (a.0 == b.0) (is_in (b.0 ∷ rest) b.0) (in_head b.0 rest))
 
 named_later : (first rest : List ℕ) (c : Cond) → IsNamedIn rest c → IsNamedIn (first ++ rest) c
 named_later first rest (cond.Const a op x) named = in_right first rest a.0 named
@@ -63,14 +38,6 @@ all_named (c ∷ rest) =
     All-cons (IsNamedIn (cond_attributes c ++ flat_map cond_attributes rest)) c rest (named_here c (flat_map cond_attributes rest))
     (All-weaker (IsNamedIn (flat_map cond_attributes rest)) (IsNamedIn (cond_attributes c ++ flat_map cond_attributes rest))
     (named_later (cond_attributes c) (flat_map cond_attributes rest)) rest (all_named rest))
-
--- what a function of each element gives is in the list of what it gives
-pub all_mapped : {X : Type 0} (f : X → ℕ) (xs : List X) → All (λ x. is_in (map f xs) (f x) ≡ true) xs
-all_mapped f [] = All-nil (λ x. is_in [] (f x) ≡ true)
-all_mapped f (x ∷ rest) =
-    All-cons (λ y. is_in (f x ∷ map f rest) (f y) ≡ true) x rest (in_head (f x) (map f rest))
-    (All-weaker (λ y. is_in (map f rest) (f y) ≡ true) (λ y. is_in (f x ∷ map f rest) (f y) ≡ true)
-    (λ y inside. or_true (f x == f y) (is_in (map f rest) (f y)) inside) rest (all_mapped f rest))
 
 -- the parts of the used set
 pub used-parts : (q : Query) (a : ℕ) → has (used_set q) a
@@ -84,16 +51,16 @@ used-parts q a =
     third ∙ ap (λ s. s || is_in (aggregated q.aggs) a) (second ∙ ap (λ s. s || is_in conds a) first)
 
 pub used-group : (q : Query) (a : ℕ) → has q.group.0 a ≡ true → has (used_set q) a ≡ true
-used-group q a inside = used-parts q a ∙ true_or _ _ (true_or _ _ (true_or _ _ inside))
+used-group q a inside = used-parts q a ∙ or_left _ _ (or_left _ _ (or_left _ _ inside))
 
 pub used-item : (q : Query) (a : ℕ) → is_in (filter_map item_attribute q.items) a ≡ true → has (used_set q) a ≡ true
-used-item q a inside = used-parts q a ∙ true_or _ _ (true_or _ _ (or_true _ _ inside))
+used-item q a inside = used-parts q a ∙ or_left _ _ (or_left _ _ (or_right _ _ inside))
 
 used-in_cond : (q : Query) (a : ℕ) → is_in (flat_map cond_attributes q.conds) a ≡ true → has (used_set q) a ≡ true
-used-in_cond q a inside = used-parts q a ∙ true_or _ _ (or_true _ _ inside)
+used-in_cond q a inside = used-parts q a ∙ or_left _ _ (or_right _ _ inside)
 
 pub used-agg : (q : Query) (a : ℕ) → is_in (aggregated q.aggs) a ≡ true → has (used_set q) a ≡ true
-used-agg q a inside = used-parts q a ∙ or_true _ _ inside
+used-agg q a inside = used-parts q a ∙ or_right _ _ inside
 
 -- a condition of the query: its attributes are used, below 64, and two of them are not one
 pub record IsUsed (q : Query) (a : AttrId) : Type 0 where
@@ -160,5 +127,5 @@ all_items (i ∷ rest) =
   where
     past : (i : Item) (a : ℕ) (rest : List Item) → is_in (filter_map item_attribute rest) a ≡ true
         → is_in (filter_map item_attribute (i ∷ rest)) a ≡ true
-    past (item.Attr b) a rest inside = or_true (b.0 == a) (is_in (filter_map item_attribute rest) a) inside
+    past (item.Attr b) a rest inside = or_right (b.0 == a) (is_in (filter_map item_attribute rest) a) inside
     past item.Count a rest inside = inside

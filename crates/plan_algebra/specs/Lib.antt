@@ -4,8 +4,8 @@ pub mod Nodes
 pub mod Families
 pub mod Kinds
 pub mod Facts
-pub mod Building
-pub mod Small
+pub mod Uses
+pub mod Leaves
 pub mod Meaning
-pub mod Gathering
 pub mod PropLaws
+pub mod inside

@@ -16,7 +16,7 @@ pub fn merged(
     requires right { b.0 < 64 }
     ensures { IfOk result (λ made. made.items ≡ merged a b family.now) }
 {
-    let both = AttrSet::EMPTY.with(a).with(b);
+    let both = AttrSet::of(a).with(b);
     let mut rest = without_meeting(alloc, both, family)?;
     place(&mut rest, with_meeting(both, family))?;
     Ok(rest)

@@ -1,14 +1,11 @@
 ghost use Rattle.std.specs.Prelude.{◌≡◌, ◌<◌, ◌≤◌, ◌+◌, [], length, IfOk, OnOk};
-ghost use Rattle.base_laws.specs.Sets.{with_members};
-ghost use Rattle.mq_base.specs.Nodes.{aggregated};
 ghost use Rattle.plan_algebra.specs.Facts.{IsOneOn, IsTwoOn, compared, cut_to, facts_at, group_set, leaf_set, leaves_set, node_at, one_facts, product_facts, two_facts};
-ghost use Rattle.plan_algebra.specs.Gathering.{AllStand, IsBase, Stands, base_facts, facts_after, node_facts};
+ghost use Rattle.plan_algebra.specs.inside.Gathering.{AllStand, IsBase, Stands, base_facts, facts_after, node_facts};
 ghost use Rattle.plan_algebra.specs.Kinds.{kind_of};
 
 use crate::facts::NodeFacts;
 use crate::families::{merged, united};
 use crate::kind::Kind;
-use crate::used::with_aggregated;
 use mq_base::{AttrId, AttrSet, NoMemory, NodeId, PlanNode, PlanOp, Seq};
 use std::alloc::Global;
 
@@ -89,7 +86,7 @@ fn one_facts(alloc: Global, op: &PlanOp, operand: &NodeFacts) -> Result<NodeFact
         ),
         PlanOp::Group(by, aggs, count) => cut_to(
             alloc,
-            with_aggregated(*by, aggs.as_slice()),
+            by.with_aggregated(aggs.as_slice()),
             operand,
             *count,
         ),

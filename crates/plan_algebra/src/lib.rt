@@ -10,7 +10,6 @@ mod nodes;
 mod plan;
 mod plan_facts;
 mod tables;
-mod used;
 
 pub use facts::NodeFacts;
 pub use kind::Kind;

@@ -1,6 +1,6 @@
 ghost use Rattle.std.specs.Prelude.{◌≡◌, ◌≤◌, ◌-◌, ◌++◌, ◌∷◌, [], length, map, IfOk, OnOk};
 ghost use Rattle.mq_base.specs.declared.plan.PlanOp.TheVariants as op;
-ghost use Rattle.plan_algebra.specs.Building.{beside_last, over_all, over_if, over_last};
+ghost use Rattle.plan_algebra.specs.inside.Building.{beside_last, over_all, over_if, over_last};
 ghost use Rattle.plan_algebra.specs.Nodes.{leaf_node};
 ghost use Rattle.plan_algebra.specs.Plan.{kept_by, selection, turned};
 

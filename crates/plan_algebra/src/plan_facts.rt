@@ -72,6 +72,14 @@ impl PlanFacts {
         &node_at(self.plan.nodes.as_slice(), n).op
     }
 
+    /// The facts of a node. It takes no memory.
+    pub fn facts(&self, n: NodeId) -> &NodeFacts
+        requires { n.0 < length self.now.plan.nodes }
+        ensures { result.now ≡ facts_at self.now.nodes n.0 }
+    {
+        facts_at(self.nodes.as_slice(), n)
+    }
+
     /// The attributes that a node has. It takes no memory.
     pub fn visible(&self, n: NodeId) -> AttrSet
         requires { n.0 < length self.now.plan.nodes }

@@ -1,6 +1,6 @@
 ghost use Rattle.std.specs.Prelude.{◌≡◌, ◌+◌, ◌<◌, ◌≤◌, [], length, filter, position, take, drop, OnOk};
 ghost use Rattle.mq_base.specs.Nodes.{is_of, is_of_some, joins, used_set};
-ghost use Rattle.plan_algebra.specs.Building.{attached_on, branch_on, over_kept, table_on, tables_after, tables_on};
+ghost use Rattle.plan_algebra.specs.inside.Building.{attached_on, branch_on, over_kept, table_on, tables_after, tables_on};
 ghost use Rattle.plan_algebra.specs.Plan.{columns_set, is_about, join_by, used_of};
 
 use crate::nodes::{last, push_beside, push_leaf, select_if, turned};

@@ -1,6 +1,7 @@
 -- What holds of lists without a fault, and of the policy that they stand for.
 use Rattle.std.proofs.Common.{◌≡◌, ℕ, zero, suc, ◌+◌, ◌<◌, ◌≤◌, List, [], ◌∷◌, length, map, Bool, true, false, Option, Some, None, is_some, bytes_eq, refl, sym, ◌∙◌, arith}
 use Rattle.std.specs.Prelude.{slice_get, position, unwrap_or, IfSome, if◌then◌else◌}
+use Rattle.std.specs.Option.{option_or}
 use Rattle.std.specs.Str.{IsUtf8}
 use Rattle.std.proofs.lemmas.List.{length-map}
 use Rattle.base_laws.specs.Sets.{has}
@@ -8,7 +9,7 @@ use Rattle.base_laws.proofs.SetLaws.{has-empty}
 use Rattle.std.proofs.lemmas.Bool.Decides.{nat_tests}
 use Rattle.std.proofs.lemmas.List.Quantifiers.{position-Some}
 use Rattle.std.proofs.lemmas.Option.{slice_get_within}
-use Rattle.base_laws.specs.Firsts.{or_else, first_at}
+use Rattle.base_laws.specs.Firsts.{first_at}
 use Rattle.base_laws.proofs.FirstLaws.{first_at-none, none_left}
 use Rattle.policy_reader.specs.declared.raw.RawTable.{RawTable}
 use Rattle.policy_reader.specs.declared.raw.RawPolicy.{RawPolicy}
@@ -33,7 +34,7 @@ not_over limit number at none = grind (arith, nat_tests)
 kept : (subjects : List (List ℕ)) (tables : List RawTable) → limit_fault subjects tables ≡ None
     → (length subjects ≤ 16) × (length tables ≤ 8) × (column_count tables ≤ 64)
 kept subjects tables none =
-    let first = none_left (over 16 (length subjects) 0) (or_else (over 8 (length tables) 1) (over 64 (column_count tables) 2)) none in
+    let first = none_left (over 16 (length subjects) 0) (option_or (over 8 (length tables) 1) (over 64 (column_count tables) 2)) none in
     let second = none_left (over 8 (length tables) 1) (over 64 (column_count tables) 2) first.1 in
     (not_over 16 (length subjects) 0 first.0, not_over 8 (length tables) 1 second.0, not_over 64 (column_count tables) 2 second.1)
 
@@ -55,9 +56,9 @@ sound raw none =
     let owners = first_at (owner_fault raw.subjects raw.tables) 0 (length raw.tables) in
     let user = user_fault raw.subjects raw.user in
     let rules = first_at (rule_fault raw.subjects raw.tables raw.rules) 0 (length raw.rules) in
-    let one = none_left (limit_fault raw.subjects raw.tables) (or_else (names_fault raw.subjects raw.tables) (or_else owners (or_else user rules))) none in
-    let two = none_left (names_fault raw.subjects raw.tables) (or_else owners (or_else user rules)) one.1 in
-    let three = none_left owners (or_else user rules) two.1 in
+    let one = none_left (limit_fault raw.subjects raw.tables) (option_or (names_fault raw.subjects raw.tables) (option_or owners (option_or user rules))) none in
+    let two = none_left (names_fault raw.subjects raw.tables) (option_or owners (option_or user rules)) one.1 in
+    let three = none_left owners (option_or user rules) two.1 in
     let four = none_left user rules three.1 in
     record { limits = one.0; names = two.0; owners = three.0; user = four.0; rules = four.1 }
 

@@ -1,20 +1,20 @@
 -- The names of lists without a fault: each is text, and none stands twice among those of a kind.
-use Rattle.std.proofs.Common.{◌≡◌, ℕ, zero, suc, ◌+◌, ◌<◌, Bool, true, false, ◌&&◌, ◌||◌, List, [], ◌∷◌, length, take, Option, Some, None, refl, sym, ◌∙◌, ap, arith, bytes_eq, map, option_map}
+use Rattle.std.proofs.Common.{◌≡◌, ℕ, ◌+◌, ◌<◌, Bool, true, false, ◌||◌, List, [], ◌∷◌, length, take, Option, Some, None, refl, arith, bytes_eq}
 use Rattle.std.specs.Prelude.{IfSome, slice_get, nat_le}
-use Rattle.std.specs.List.{list_all, list_any, IsDistinct, AllByRecursion}
+use Rattle.std.specs.List.{list_all, list_any, IsDistinct}
 use Rattle.std.specs.Str.{IsUtf8, IsAscii}
-use Rattle.std.proofs.Math.Seq.{take-length}
-use Rattle.std.proofs.lemmas.Bool.{and_parts, or_parts}
+use Rattle.std.proofs.lemmas.Bool.{and_parts}
 use Rattle.std.proofs.lemmas.Bool.Decides.{nat_tests}
 use Rattle.std.proofs.lemmas.Str.{IsUtf8-from_ascii}
 use Rattle.std.proofs.lemmas.Str.Ascii.{IsAscii-nil, IsAscii-cons}
 use Rattle.std.proofs.lemmas.Option.{slice_get_within}
-use Rattle.base_laws.specs.Firsts.{or_else, first_at}
+use Rattle.base_laws.specs.Firsts.{first_at}
 use Rattle.base_laws.proofs.FirstLaws.{first_at-none, none_left}
+use Rattle.base_laws.proofs.PlaceLaws.{none_before, distinct_from_places}
 use Rattle.policy_reader.specs.declared.raw.RawColumn.{RawColumn}
 use Rattle.policy_reader.specs.declared.raw.RawTable.{RawTable}
 use Rattle.policy_reader.specs.Names.{is_name, is_subject_name, is_one_of}
-use Rattle.policy_reader.specs.Faults.{name_fault, subject_fault, table_fault, column_fault, columns_fault, table_names_fault, names_fault, is_table, is_column, has_column, have_column}
+use Rattle.policy_reader.specs.Faults.{name_fault, subject_fault, table_fault, column_fault, columns_fault, table_names_fault, is_table, has_column, have_column}
 use Rattle.word_forms.specs.Words.{is_first, is_later, is_word}
 
 first_ascii : (b : ℕ) → is_first b ≡ true → b < 128
@@ -115,39 +115,7 @@ tables_are_text tables none t = by_place (slice_get tables t) refl
     by_place None here = tt
     by_place (Some table) here = name_text table.name (table_passes tables t table none here).0
 
--- an item before a place at which none passes a test does not pass it; nor does one of a list in which none does
-pub none_before : {X : Type 0} (test : X → Bool) (xs : List X) (n k : ℕ) (x : X) → slice_get xs k ≡ Some x → k < n
-    → list_any test (take n xs) ≡ false → test x ≡ false
-none_before test [] n k x there below none = cc
-none_before test (y ∷ xs) zero k x there below none = absurd (omega arith)
-none_before test (y ∷ xs) (suc n) zero x there below none =
-    let same : y ≡ x = cc in
-    rw same at ((or_parts (test y) (list_any test (take n xs)) none).0)
-none_before test (y ∷ xs) (suc n) (suc k) x there below none =
-    none_before test xs n k x there (omega arith) (or_parts (test y) (list_any test (take n xs)) none).1
-
-pub none_at : {X : Type 0} (test : X → Bool) (xs : List X) (k : ℕ) (x : X) → slice_get xs k ≡ Some x → list_any test xs ≡ false → test x ≡ false
-none_at test xs k x there none =
-    none_before test xs (length xs) k x there (slice_get_within xs k x there) (rw take-length none)
-
--- names of which none is equal to an earlier one differ
-pub differ : (names : List (List ℕ)) → ((i j : ℕ) (x y : List ℕ) → i < j → slice_get names i ≡ Some x → slice_get names j ≡ Some y → bytes_eq x y ≡ false)
-    → IsDistinct bytes_eq names
-unfolding IsDistinct
-differ [] each = tt
-differ (x ∷ names) each =
-    (from_first names (λ j y there. each 0 (suc j) x y (omega arith) refl there), differ names (λ i j a b below here there. each (suc i) (suc j) a b (omega arith) here there))
-  where
-    from_first : (rest : List (List ℕ)) → ((j : ℕ) (y : List ℕ) → slice_get rest j ≡ Some y → bytes_eq x y ≡ false)
-        → AllByRecursion (λ y. bytes_eq x y ≡ false) rest
-    from_first [] one = tt
-    from_first (y ∷ rest) one = (one 0 y refl, from_first rest (λ j z there. one (suc j) z there))
-
+-- subjects differ
 pub subjects_differ : (subjects : List (List ℕ)) → first_at (subject_fault subjects) 0 (length subjects) ≡ None → IsDistinct bytes_eq subjects
-subjects_differ subjects none = differ subjects (λ i j x y below here there.
+subjects_differ subjects none = distinct_from_places bytes_eq subjects (λ i j x y below here there.
     none_before (λ name. bytes_eq name y) subjects j i x here below (subject_passes subjects j y none there).1)
-
--- what a list's items show, and the item that shows a value
-pub shown : {A B : Type 0} (f : A → B) (o : Option A) (y : B) → option_map f o ≡ Some y → (a : A) × ((o ≡ Some a) × (f a ≡ y))
-shown f None y same = cc
-shown f (Some a) y same = (a, (refl, cc))

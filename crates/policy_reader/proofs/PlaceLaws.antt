@@ -1,24 +1,23 @@
 -- Where tables and columns stand: the ids of a table's columns are a run of their own, and each column of the policy is
 -- that of a place of a table. So the names of tables and of columns differ.
-use Rattle.std.proofs.Common.{◌≡◌, ℕ, zero, suc, ◌+◌, ◌-◌, ◌<◌, ◌≤◌, Bool, true, false, ◌||◌, List, [], ◌∷◌, ◌++◌, length, take, map, Option, Some, None, refl, sym, ◌∙◌, ap, arith, bytes_eq, option_map, ◌⊎◌, inl, inr, zero-add, add_assoc}
+use Rattle.std.proofs.Common.{◌≡◌, ℕ, zero, suc, ◌+◌, ◌-◌, ◌<◌, ◌≤◌, false, ◌||◌, List, [], ◌∷◌, length, take, map, Option, Some, None, refl, sym, ◌∙◌, ap, arith, bytes_eq, option_map, ◌⊎◌, inl, inr, zero-add}
 use Rattle.std.specs.Prelude.{slice_get, IfSome}
-use Rattle.std.specs.List.{list_any, IsDistinct}
+use Rattle.std.specs.List.{IsDistinct}
 use Rattle.std.specs.Str.{IsUtf8}
-use Rattle.std.proofs.Math.Nat.{sub-zero}
-use Rattle.std.proofs.lemmas.Bool.{or_parts}
+use Rattle.std.proofs.lemmas.Bool.{or_parts, cases_lt, cases_order}
 use Rattle.std.proofs.lemmas.List.{length-map}
 use Rattle.std.proofs.lemmas.List.Sums.{sum_by-cons}
 use Rattle.std.proofs.lemmas.Option.{slice_get_within, slice_get-map}
 use Rattle.base_laws.specs.Firsts.{first_at}
+use Rattle.base_laws.proofs.PlaceLaws.{none_at, none_before, distinct_from_places, shown, slice_get-append_left, slice_get-append_right}
 use Rattle.mq_base.specs.declared.schema.AttrInfo.{AttrInfo}
 use Rattle.mq_base.specs.declared.schema.TableInfo.{TableInfo}
-use Rattle.mq_base.specs.declared.ids.SubjectId.{SubjectId}
 use Rattle.policy_reader.specs.declared.raw.RawColumn.{RawColumn}
 use Rattle.policy_reader.specs.declared.raw.RawTable.{RawTable}
 use Rattle.policy_reader.specs.Faults.{table_names_fault, is_table, is_column, has_column, have_column, column_count}
 use Rattle.policy_reader.specs.Grants.{first_id}
 use Rattle.policy_reader.specs.Outcome.{subject_id, table_info, tables_from, column_info, columns_from}
-use Rattle.policy_reader.proofs.NameLaws.{none_at, none_before, differ, shown, table_passes, column_passes, name_text}
+use Rattle.policy_reader.proofs.NameLaws.{table_passes, column_passes, name_text}
 
 -- the first id of the next table
 first_id-more : (table : RawTable) (others : List RawTable) (t : ℕ) → first_id (table ∷ others) (suc t) ≡ length table.columns + first_id others t
@@ -82,7 +81,7 @@ owners_are subjects first (table ∷ others) =
 
 pub tables_differ : (tables : List RawTable) → first_at (table_names_fault tables) 0 (length tables) ≡ None
     → IsDistinct bytes_eq (map (λ (table : RawTable). table.name) tables)
-tables_differ tables none = differ (map (λ (table : RawTable). table.name) tables) (λ i j x y below here there.
+tables_differ tables none = distinct_from_places bytes_eq (map (λ (table : RawTable). table.name) tables) (λ i j x y below here there.
     at i j x y below
     (shown (λ (table : RawTable). table.name) (slice_get tables i) x (sym (slice_get-map (λ (table : RawTable). table.name) tables i) ∙ here))
     (shown (λ (table : RawTable). table.name) (slice_get tables j) y (sym (slice_get-map (λ (table : RawTable). table.name) tables j) ∙ there)))
@@ -92,19 +91,6 @@ tables_differ tables none = differ (map (λ (table : RawTable). table.name) tabl
     at i j x y below (one, (one_there, one_named)) (two, (two_there, two_named)) =
         rw (← one_named, ← two_named)
         (none_before (is_table two.name) tables j i one one_there below (table_passes tables j two none two_there).1)
-
--- an item of two lists in a row
-get_front : {X : Type 0} (xs ys : List X) (k : ℕ) → k < length xs → slice_get (xs ++ ys) k ≡ slice_get xs k
-get_front [] ys k below = absurd (omega arith)
-get_front (x ∷ xs) ys zero below = refl
-get_front (x ∷ xs) ys (suc k) below = get_front xs ys k (omega arith)
-
-get_back : {X : Type 0} (xs ys : List X) (k : ℕ) → length xs ≤ k → slice_get (xs ++ ys) k ≡ slice_get ys (k - length xs)
-get_back [] ys k past = rw sub-zero refl
-get_back (x ∷ xs) ys zero past = absurd (omega arith)
-get_back (x ∷ xs) ys (suc k) past =
-    let less : suc k - suc (length xs) ≡ k - length xs = omega arith in
-    rw less (get_back xs ys k (omega arith))
 
 -- the table and the place in it of the column with an id
 pub record IsLocated (tables : List RawTable) (a : ℕ) (name : List ℕ) : Type 0 where
@@ -117,14 +103,11 @@ pub record IsLocated (tables : List RawTable) (a : ℕ) (name : List ℕ) : Type
   pub named : column.name ≡ name
   pub id : a ≡ first_id tables t + place
 
-pub here_or_later : (a n : ℕ) → (a < n) ⊎ (n ≤ a)
-here_or_later a n = grind arith
-
 pub located : (t : ℕ) (tables : List RawTable) (a : ℕ) (info : AttrInfo) → slice_get (columns_from t tables) a ≡ Some info
     → IsLocated tables a info.name
 located t [] a info there = cc
 located t (table ∷ others) a info there =
-    by_place (here_or_later a (length table.columns)) (located (suc t) others (a - length table.columns) info)
+    by_place (cases_lt a (length table.columns)) (located (suc t) others (a - length table.columns) info)
   where
     in_first : (column : RawColumn) × ((slice_get table.columns a ≡ Some column) × (column_info t column ≡ info)) → IsLocated (table ∷ others) a info.name
     in_first (column, (column_there, same)) = record {
@@ -159,21 +142,18 @@ located t (table ∷ others) a info there =
     by_place (inl below) rest =
         let short : a < length (map (column_info t) table.columns) = rw length-map below in
         in_first (shown (column_info t) (slice_get table.columns a) info
-        (sym (slice_get-map (column_info t) table.columns a) ∙ sym (get_front (map (column_info t) table.columns) (columns_from (suc t) others) a short) ∙ there))
+        (sym (slice_get-map (column_info t) table.columns a) ∙ sym (slice_get-append_left (map (column_info t) table.columns) (columns_from (suc t) others) a short) ∙ there))
     by_place (inr past) rest =
         let long : length (map (column_info t) table.columns) ≤ a = rw length-map past in
         let same : length (map (column_info t) table.columns) ≡ length table.columns = rw length-map refl in
         let at_rest : slice_get (columns_from (suc t) others) (a - length table.columns) ≡ Some info =
-        rw same at (sym (get_back (map (column_info t) table.columns) (columns_from (suc t) others) a long) ∙ there) in
+        rw same at (sym (slice_get-append_right (map (column_info t) table.columns) (columns_from (suc t) others) a long) ∙ there) in
         in_later past (rest at_rest)
-
-which : (i j : ℕ) → (i < j) ⊎ ((i ≡ j) ⊎ (j < i))
-which i j = grind arith
 
 -- the columns at two ids have different names
 columns_apart : (tables : List RawTable) (i j : ℕ) (x y : List ℕ) → first_at (table_names_fault tables) 0 (length tables) ≡ None
     → i < j → IsLocated tables i x → IsLocated tables j y → bytes_eq x y ≡ false
-columns_apart tables i j x y none below one two = rw (← one.named, ← two.named) (by_table (which one.t two.t))
+columns_apart tables i j x y none below one two = rw (← one.named, ← two.named) (by_table (cases_order one.t two.t))
   where
     first_place : i ≡ first_id tables one.t + one.place
     first_place = one.id
@@ -195,11 +175,11 @@ columns_apart tables i j x y none below one two = rw (← one.named, ← two.nam
         let column_there : slice_get two.table.columns one.place ≡ Some one.column = rw same at one.column_there in
         none_before (is_column two.column.name) two.table.columns two.place one.place one.column column_there (omega arith) news.1
 
-    by_table : (one.t < two.t) ⊎ ((one.t ≡ two.t) ⊎ (two.t < one.t)) → bytes_eq one.column.name two.column.name ≡ false
-    by_table (inl before) =
+    by_table : (one.t ≡ two.t) ⊎ ((one.t < two.t) ⊎ (two.t < one.t)) → bytes_eq one.column.name two.column.name ≡ false
+    by_table (inl same_t) = in_one_table same_t
+    by_table (inr (inl before)) =
         let not_there = none_before (λ table. has_column two.column.name table.columns) tables two.t one.t one.table one.table_there before news.0 in
         none_at (is_column two.column.name) one.table.columns one.place one.column one.column_there not_there
-    by_table (inr (inl same_t)) = in_one_table same_t
     by_table (inr (inr after)) =
         let ended : first_id tables two.t + length two.table.columns ≤ first_id tables one.t = run_before tables two.t one.t two.table two.table_there after in
         let inside : two.place < length two.table.columns = slice_get_within two.table.columns two.place two.column two.column_there in
@@ -207,7 +187,7 @@ columns_apart tables i j x y none below one two = rw (← one.named, ← two.nam
 
 pub attributes_differ : (tables : List RawTable) → first_at (table_names_fault tables) 0 (length tables) ≡ None
     → IsDistinct bytes_eq (map (λ (info : AttrInfo). info.name) (columns_from 0 tables))
-attributes_differ tables none = differ (map (λ (info : AttrInfo). info.name) (columns_from 0 tables)) (λ i j x y below here there.
+attributes_differ tables none = distinct_from_places bytes_eq (map (λ (info : AttrInfo). info.name) (columns_from 0 tables)) (λ i j x y below here there.
     columns_apart tables i j x y none below
     (at i x (shown (λ (info : AttrInfo). info.name) (slice_get (columns_from 0 tables) i) x (sym (slice_get-map (λ (info : AttrInfo). info.name) (columns_from 0 tables) i) ∙ here)))
     (at j y (shown (λ (info : AttrInfo). info.name) (slice_get (columns_from 0 tables) j) y (sym (slice_get-map (λ (info : AttrInfo). info.name) (columns_from 0 tables) j) ∙ there))))

@@ -5,6 +5,7 @@ use Rattle.std.proofs.Math.Nat.{sub-zero}
 use Rattle.std.proofs.lemmas.List.{length-map}
 use Rattle.std.proofs.lemmas.List.Sums.{sum_by-cons}
 use Rattle.base_laws.specs.Sets.{has}
+use Rattle.std.proofs.lemmas.Bool.{cases_lt}
 use Rattle.mq_base.specs.declared.schema.AttrInfo.{AttrInfo}
 use Rattle.mq_base.specs.declared.schema.TableInfo.{TableInfo}
 use Rattle.policy_reader.specs.declared.raw.RawColumn.{RawColumn}
@@ -13,7 +14,6 @@ use Rattle.policy_reader.specs.Names.{is_one_of}
 use Rattle.policy_reader.specs.Faults.{column_count}
 use Rattle.policy_reader.specs.Grants.{ids}
 use Rattle.policy_reader.specs.Outcome.{subject_id, table_info, tables_from, column_info, columns_from}
-use Rattle.policy_reader.proofs.PlaceLaws.{here_or_later}
 use Rattle.policy_reader.proofs.SeenLaws.{ids-members, ids-from}
 
 -- the table of the column at a place of the list
@@ -48,7 +48,7 @@ later t (column ∷ columns) rest (suc a) past =
 pub in_tables : (t : ℕ) (tables : List RawTable) (a : ℕ)
     → IfSome (table_at (columns_from t tables) a) (λ found. (t ≤ found) × (found < t + length tables))
 in_tables t [] a = tt
-in_tables t (table ∷ others) a = by_place (here_or_later a (length table.columns)) (in_tables (suc t) others (a - length table.columns))
+in_tables t (table ∷ others) a = by_place (cases_lt a (length table.columns)) (in_tables (suc t) others (a - length table.columns))
   where
     wider : (o : Option ℕ) → IfSome o (λ found. (suc t ≤ found) × (found < suc t + length others))
         → IfSome o (λ found. (t ≤ found) × (found < t + suc (length others)))
@@ -96,7 +96,7 @@ listed_here subjects first t table others a = (to, from)
         absurd (omega arith)
 
     from : (first ≤ a) × (table_at (columns_from t (table ∷ others)) (a - first) ≡ Some (t + 0)) → has (ids first (length table.columns)) a ≡ true
-    from both = by_place both.0 both.1 (here_or_later (a - first) (length table.columns))
+    from both = by_place both.0 both.1 (cases_lt (a - first) (length table.columns))
 
 listed_later : (first t : ℕ) (table : RawTable) (others : List RawTable) (k : ℕ) (info : TableInfo)
     → IsListed (first + length table.columns) (suc t) others k info → IsListed first t (table ∷ others) (suc k) info
@@ -127,7 +127,7 @@ listed_later first t table others k info listed a = (to, from)
         (listed a).1 (omega arith, rw (rest, ← same) there_later)
 
     from : (first ≤ a) × (table_at (columns_from t (table ∷ others)) (a - first) ≡ Some (t + suc k)) → has info.attrs.0 a ≡ true
-    from both = by_place both.0 both.1 (here_or_later (a - first) (length table.columns))
+    from both = by_place both.0 both.1 (cases_lt (a - first) (length table.columns))
 
 all_listed : (subjects : List (List ℕ)) (first t : ℕ) (tables : List RawTable) (k : ℕ)
     → IfSome (slice_get (tables_from subjects first tables) k) (IsListed first t tables k)

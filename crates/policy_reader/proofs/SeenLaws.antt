@@ -1,19 +1,19 @@
 -- What a subject may see, of lists without a fault: attributes of the policy, none both plain and sealed, and for the
 -- owner of a table all of it plain.
-use Rattle.std.proofs.Common.{◌≡◌, ◌≢◌, ℕ, zero, suc, ◌+◌, ◌-◌, ◌^◌, ◌<◌, ◌≤◌, Bool, true, false, not, ◌&&◌, ◌||◌, List, [], ◌∷◌, ◌++◌, length, take, get_or, find, map, replicate, Option, Some, None, is_some, refl, sym, ◌∙◌, ap, arith, bit_or, bytes_eq, cond, ◌⊎◌, inl, inr, zero-add}
-use Rattle.std.specs.Prelude.{slice_get, position, unwrap_or, option_map, IfSome, if◌then◌else◌}
+use Rattle.std.proofs.Common.{◌≡◌, ℕ, zero, suc, ◌+◌, ◌-◌, ◌^◌, ◌<◌, ◌≤◌, Bool, true, false, not, List, [], ◌∷◌, ◌++◌, length, take, get_or, find, map, replicate, Option, Some, None, is_some, refl, sym, ◌∙◌, ap, arith, bytes_eq, ◌⊎◌, inl, inr, zero-add}
+use Rattle.std.specs.Prelude.{slice_get, position, option_map, IfSome, if◌then◌else◌}
 use Rattle.std.specs.List.{list_any}
 use Rattle.std.specs.Option.{option_or, option_map_or}
-use Rattle.std.proofs.lemmas.Bool.{and_parts, or_parts}
+use Rattle.std.proofs.lemmas.Bool.{and_parts, cases_order}
 use Rattle.std.proofs.lemmas.List.Quantifiers.{position-Some}
-use Rattle.std.proofs.lemmas.Option.{slice_get_within, get_or_from_slice_get, slice_get-get_or}
+use Rattle.std.proofs.lemmas.Option.{slice_get_within, slice_get-get_or}
 use Rattle.std.proofs.lemmas.Slice.Eq.{bytes_eq-Decides}
-use Rattle.base_laws.specs.Firsts.{or_else, first_at}
-use Rattle.base_laws.specs.Folds.{union_to}
+use Rattle.base_laws.specs.Firsts.{first_at}
 use Rattle.base_laws.specs.Sets.{has, IsWithin}
 use Rattle.base_laws.proofs.FirstLaws.{first_at-none, none_left}
-use Rattle.base_laws.proofs.SetLaws.{has-bit_or, has-single_same, has-single_other, has-empty, has-union_to}
-use Rattle.mq_base.specs.declared.attr_set.AttrSet.{AttrSet}
+use Rattle.base_laws.proofs.SetLaws.{has-single_same, has-empty, has-union_to}
+use Rattle.base_laws.proofs.PlaceLaws.{none_at, found_place, found_first}
+use Rattle.base_laws.proofs.UnionLaws.{no_member, only_member, member_of_union}
 use Rattle.mq_base.specs.declared.refusal.Refusal.{Refusal}
 use Rattle.policy_reader.specs.declared.grants.Grant.{Grant}
 use Rattle.policy_reader.specs.declared.raw.RawColumn.{RawColumn}
@@ -27,51 +27,16 @@ use Rattle.policy_reader.specs.Grants.{first_id, ids, single, named, named_at, l
 use Rattle.policy_reader.specs.Names.{any_subject, is_one_of}
 use Rattle.policy_reader.specs.Outcome.{subject_id, tables_from, table_info, sixteen}
 use Rattle.policy_reader.specs.Rules.{is_rule, may_speak_of, unknown_fault, overlap_fault, sealed_string_fault, plain_fault, sealed_fault, strings_fault, rule_fault_for, rule_fault_in, rule_fault}
-use Rattle.policy_reader.proofs.NameLaws.{none_at, none_before, table_passes}
+use Rattle.policy_reader.proofs.NameLaws.{table_passes}
 use Rattle.policy_reader.proofs.PlaceLaws.{run_before, run_within, tables_from-at}
 use Rattle.policy_reader.proofs.RuleLaws.{any-position, a_column}
 
-false_member : {A : Type 0} (a : ℕ) → has 0 a ≡ true → A
-false_member a inside = let h : has 0 a ≡ false = has-empty a in cc
-
-same_or_other : (a i : ℕ) → (a ≡ i) ⊎ ((a < i) ⊎ (i < a))
-same_or_other a i = grind arith
-
-only_itself : (i a : ℕ) → has (2 ^ i) a ≡ true → a ≡ i
-only_itself i a inside = by_order (same_or_other a i)
-  where
-    other : a ≢ i → a ≡ i
-    other differ = let h : has (2 ^ i) a ≡ false = has-single_other i a differ in cc
-
-    by_order : (a ≡ i) ⊎ ((a < i) ⊎ (i < a)) → a ≡ i
-    by_order (inl same) = same
-    by_order (inr (inl below)) = other (λ same. omega arith)
-    by_order (inr (inr above)) = other (λ same. omega arith)
-
--- a member of a union over numbers is one of the set of some number
-union_member : (set : ℕ → ℕ) (n a : ℕ) → has (union_to set n) a ≡ true → (k : ℕ) × ((k < n) × (has (set k) a ≡ true))
-union_member set zero a inside = false_member a inside
-union_member set (suc n) a inside = by_side (union_member set n a) (has (union_to set n) a) (has (set n) a) refl refl
-    (sym (has-bit_or (union_to set n) (set n) a) ∙ inside)
-  where
-    sooner : (k : ℕ) × ((k < n) × (has (set k) a ≡ true)) → (k : ℕ) × ((k < suc n) × (has (set k) a ≡ true))
-    sooner (k, (below, here)) = (k, (omega arith, here))
-
-    last : n < suc n
-    last = omega arith
-
-    by_side : (has (union_to set n) a ≡ true → (k : ℕ) × ((k < n) × (has (set k) a ≡ true))) → (b c : Bool) → has (union_to set n) a ≡ b
-        → has (set n) a ≡ c → (b || c) ≡ true → (k : ℕ) × ((k < suc n) × (has (set k) a ≡ true))
-    by_side before true c in_left in_right either = sooner (before in_left)
-    by_side before false true in_left in_right either = (n, (last, in_right))
-    by_side before false false in_left in_right either = cc
-
 -- the members of a run of ids
 pub ids-members : (first n a : ℕ) → has (ids first n) a ≡ true → (first ≤ a) × (a < first + n)
-ids-members first n a inside = by_place (union_member (λ place. 2 ^ (first + place)) n a inside)
+ids-members first n a inside = by_place (member_of_union (λ place. 2 ^ (first + place)) n a inside)
   where
     by_place : (k : ℕ) × ((k < n) × (has (2 ^ (first + k)) a ≡ true)) → (first ≤ a) × (a < first + n)
-    by_place (k, (below, here)) = let same : a ≡ first + k = only_itself (first + k) a here in (omega arith, omega arith)
+    by_place (k, (below, here)) = let same : a ≡ first + k = only_member (first + k) a here in (omega arith, omega arith)
 
 pub ids-from : (first n a : ℕ) → first ≤ a → a < first + n → has (ids first n) a ≡ true
 ids-from first n a low high =
@@ -89,17 +54,17 @@ record IsNamed (first : ℕ) (columns : List RawColumn) (names : List (List ℕ)
 
 listed-member : (first : ℕ) (columns : List RawColumn) (names : List (List ℕ)) (a : ℕ) → has (listed first columns names) a ≡ true
     → IsNamed first columns names a
-listed-member first columns names a inside = by_string (union_member (named_at first columns names) (length names) a inside)
+listed-member first columns names a inside = by_string (member_of_union (named_at first columns names) (length names) a inside)
   where
     by_column : (k : ℕ) (name : List ℕ) → slice_get names k ≡ Some name → (o : Option ℕ) → position (is_column name) columns ≡ o
         → has (single first o) a ≡ true → IsNamed first columns names a
-    by_column k name there None found here = false_member a here
+    by_column k name there None found here = no_member a here
     by_column k name there (Some place) found here =
-        record { k = k; name = name; place = place; name_there = there; found = found; id = only_itself (first + place) a here }
+        record { k = k; name = name; place = place; name_there = there; found = found; id = only_member (first + place) a here }
 
     by_name : (k : ℕ) (o : Option (List ℕ)) → slice_get names k ≡ o → has (option_map_or (named first columns) o 0) a ≡ true
         → IsNamed first columns names a
-    by_name k None there here = false_member a here
+    by_name k None there here = no_member a here
     by_name k (Some name) there here = by_column k name there (position (is_column name) columns) refl here
 
     by_string : (k : ℕ) × ((k < length names) × (has (named_at first columns names k) a ≡ true)) → IsNamed first columns names a
@@ -148,34 +113,6 @@ strings_apart columns plain sealed at first a none in_plain in_sealed =
         (passes s.k (slice_get_within sealed s.k s.name s.name_there)) in
         let unequal : bytes_eq p.name s.name ≡ false = none_at (λ name. bytes_eq name s.name) plain p.k p.name p.name_there out in
         cc
-
--- what is found stands at a place and passes the test
-pub found_place : {X : Type 0} (test : X → Bool) (xs : List X) (x : X) → find test xs ≡ Some x → (k : ℕ) × ((slice_get xs k ≡ Some x) × (test x ≡ true))
-found_place test [] x found = cc
-found_place {X} test (y ∷ xs) x found = by_first (test y) refl found (found_place test xs x)
-  where
-    later : (k : ℕ) × ((slice_get xs k ≡ Some x) × (test x ≡ true)) → (k : ℕ) × ((slice_get (y ∷ xs) k ≡ Some x) × (test x ≡ true))
-    later (k, (there, passes)) = (suc k, (there, passes))
-
-    here : y ≡ x → test y ≡ true → (k : ℕ) × ((slice_get (y ∷ xs) k ≡ Some x) × (test x ≡ true))
-    here same passes = (0, (ap Some same, rw same at passes))
-
-    by_first : (b : Bool) → test y ≡ b → cond b (Some y) (find test xs) ≡ Some x
-        → (find test xs ≡ Some x → (k : ℕ) × ((slice_get xs k ≡ Some x) × (test x ≡ true)))
-        → (k : ℕ) × ((slice_get (y ∷ xs) k ≡ Some x) × (test x ≡ true))
-    by_first true passes found rest = let same : y ≡ x = cc in here same passes
-    by_first false fails found rest = later (rest found)
-
--- the first item that passes a test is found
-found_first : {X : Type 0} (test : X → Bool) (xs : List X) (k : ℕ) (x : X) → slice_get xs k ≡ Some x → test x ≡ true
-    → list_any test (take k xs) ≡ false → find test xs ≡ Some x
-found_first test [] k x there passes none = cc
-found_first test (y ∷ xs) zero x there passes none =
-    let same : y ≡ x = cc in
-    rw (same, passes) refl
-found_first test (y ∷ xs) (suc k) x there passes none =
-    let parts = or_parts (test y) (list_any test (take k xs)) none in
-    rw parts.0 (found_first test xs k x there passes parts.1)
 
 -- the strings of a rule of the policy, on the table that it is for
 rule_passes : (subjects : List (List ℕ)) (earlier : List RawRule) (at : ℕ) (rule : RawRule) (table : RawTable)
@@ -227,7 +164,7 @@ IsApart given a = has given.plain.0 a ≡ true → has given.sealed.0 a ≡ true
 said_apart : (first a : ℕ) (table : RawTable) (o : Option RawRule)
     → ((rule : RawRule) → o ≡ Some rule → has (listed first table.columns rule.plain) a ≡ true → has (listed first table.columns rule.sealed) a ≡ true → ⊥)
     → IsApart (said first table o) a
-said_apart first a table None each = λ in_plain in_sealed. false_member a in_plain
+said_apart first a table None each = λ in_plain in_sealed. no_member a in_plain
 said_apart first a table (Some rule) each = each rule refl
 
 table_apart : (subjects : List (List ℕ)) (tables : List RawTable) (rules : List RawRule) → IsClean subjects tables rules
@@ -243,7 +180,7 @@ table_apart subjects tables rules clean t table there subject first a = by_owner
 
     by_owner : (b : Bool) → IsApart (if b then everything first table
         else said first table (option_or (rule_for table subject rules) (rule_for table any_subject rules))) a
-    by_owner true = λ in_plain in_sealed. false_member a in_sealed
+    by_owner true = λ in_plain in_sealed. no_member a in_sealed
     by_owner false = said_apart first a table (option_or (rule_for table subject rules) (rule_for table any_subject rules))
         (one_of (rule_for table subject rules) refl)
 
@@ -252,7 +189,7 @@ abbrev Between : ℕ → ℕ → ℕ → Type 0
 Between low high set = (a : ℕ) → has set a ≡ true → (low ≤ a) × (a < high)
 
 between-empty : (low high : ℕ) → Between low high 0
-between-empty low high a inside = false_member a inside
+between-empty low high a inside = no_member a inside
 
 between-listed : (first : ℕ) (columns : List RawColumn) (names : List (List ℕ)) → Between first (first + length columns) (listed first columns names)
 between-listed first columns names a inside = within (listed-member first columns names a inside)
@@ -295,7 +232,7 @@ granted_on tables rules subject t a = by_table (slice_get tables t) refl
     by_table : (o : Option RawTable) → slice_get tables t ≡ o
         → (has (option_map_or (table_grant rules subject (first_id tables t)) o nothing).plain.0 a ≡ true → IsGrantedOn tables t a)
         × (has (option_map_or (table_grant rules subject (first_id tables t)) o nothing).sealed.0 a ≡ true → IsGrantedOn tables t a)
-    by_table None there = (λ inside. false_member a inside, λ inside. false_member a inside)
+    by_table None there = (λ inside. no_member a inside, λ inside. no_member a inside)
     by_table (Some table) there =
         let within = between-table rules subject (first_id tables t) table in (
           (λ inside. let found = within.0 a inside in record { table = table; there = there; low = found.0; high = found.1 }),
@@ -304,7 +241,7 @@ granted_on tables rules subject t a = by_table (slice_get tables t) refl
 
 -- two tables on which grants have one member are one
 one_table : (tables : List RawTable) (t u a : ℕ) → IsGrantedOn tables t a → IsGrantedOn tables u a → t ≡ u
-one_table tables t u a one two = by_order (same_or_other t u)
+one_table tables t u a one two = by_order (cases_order t u)
   where
     one_low : first_id tables t ≤ a
     one_low = one.low
@@ -331,8 +268,8 @@ one_table tables t u a one two = by_order (same_or_other t u)
 within_all : (tables : List RawTable) (rules : List RawRule) (subject : List ℕ) (a : ℕ)
     → (has (all_plain tables rules subject) a ≡ true → a < column_count tables) × (has (all_sealed tables rules subject) a ≡ true → a < column_count tables)
 within_all tables rules subject a = (
-  (λ inside. on_plain (union_member (λ t. (grant tables rules subject t).plain.0) (length tables) a inside)),
-  (λ inside. on_sealed (union_member (λ t. (grant tables rules subject t).sealed.0) (length tables) a inside)),
+  (λ inside. on_plain (member_of_union (λ t. (grant tables rules subject t).plain.0) (length tables) a inside)),
+  (λ inside. on_sealed (member_of_union (λ t. (grant tables rules subject t).sealed.0) (length tables) a inside)),
 )
   where
     below : (t : ℕ) → IsGrantedOn tables t a → a < column_count tables
@@ -353,7 +290,7 @@ all_apart subjects tables rules clean subject a in_plain = by_test (has (all_sea
   where
     in_table : (t : ℕ) (o : Option RawTable) → slice_get tables t ≡ o
         → IsApart (option_map_or (table_grant rules subject (first_id tables t)) o nothing) a
-    in_table t None there = λ in_plain in_sealed. false_member a in_plain
+    in_table t None there = λ in_plain in_sealed. no_member a in_plain
     in_table t (Some table) there = table_apart subjects tables rules clean t table there subject (first_id tables t) a
 
     on_both : (t : ℕ) × ((t < length tables) × (has (grant tables rules subject t).plain.0 a ≡ true))
@@ -364,8 +301,8 @@ all_apart subjects tables rules clean subject a in_plain = by_test (has (all_sea
 
     never : has (all_sealed tables rules subject) a ≡ true → ⊥
     never in_sealed = on_both
-        (union_member (λ t. (grant tables rules subject t).plain.0) (length tables) a in_plain)
-        (union_member (λ t. (grant tables rules subject t).sealed.0) (length tables) a in_sealed)
+        (member_of_union (λ t. (grant tables rules subject t).plain.0) (length tables) a in_plain)
+        (member_of_union (λ t. (grant tables rules subject t).sealed.0) (length tables) a in_sealed)
 
     by_test : (b : Bool) → has (all_sealed tables rules subject) a ≡ b → has (all_sealed tables rules subject) a ≡ false
     by_test true in_sealed = absurd (never in_sealed)
@@ -393,7 +330,7 @@ pub within-plain : (tables : List RawTable) (rules : List RawRule) (subjects : L
 within-plain tables rules subjects s a inside = by_subject (slice_get subjects s) (rw seen_at at inside)
   where
     by_subject : (o : Option (List ℕ)) → has (option_map_or (all_plain tables rules) o 0) a ≡ true → a < column_count tables
-    by_subject None here = false_member a here
+    by_subject None here = no_member a here
     by_subject (Some subject) here = (within_all tables rules subject a).0 here
 
 pub within-sealed : (tables : List RawTable) (rules : List RawRule) (subjects : List (List ℕ)) (s a : ℕ)
@@ -401,7 +338,7 @@ pub within-sealed : (tables : List RawTable) (rules : List RawRule) (subjects : 
 within-sealed tables rules subjects s a inside = by_subject (slice_get subjects s) (rw seen_at at inside)
   where
     by_subject : (o : Option (List ℕ)) → has (option_map_or (all_sealed tables rules) o 0) a ≡ true → a < column_count tables
-    by_subject None here = false_member a here
+    by_subject None here = no_member a here
     by_subject (Some subject) here = (within_all tables rules subject a).1 here
 
 -- and none both plain and sealed

@@ -1,12 +1,11 @@
 -- What holds of every accepted policy, and what its sets of attributes mean. docs/FORMATS.md, "Policy file", says the
 -- limits, and docs/MODEL.md, "Grants", what a subject may see.
 use Rattle.std.specs.Prelude.{◌≡◌, ℕ, ◌<◌, ◌≤◌, true, false, List, Ok, length, map, replicate, IfSome, slice_get, bytes_eq}
-use Rattle.std.specs.List.{All, IsDistinct}
+use Rattle.std.specs.List.{IsDistinct}
 use Rattle.std.specs.Option.{option_map_or}
 use Rattle.std.specs.Str.{IsUtf8}
 use Rattle.base_laws.specs.Sets.{has, IsWithin}
 use Rattle.mq_base.specs.declared.attr_set.AttrSet.{AttrSet}
-use Rattle.mq_base.specs.declared.ids.SubjectId.{SubjectId}
 use Rattle.mq_base.specs.declared.schema.AttrInfo.{AttrInfo}
 use Rattle.mq_base.specs.declared.schema.TableInfo.{TableInfo}
 use Rattle.mq_base.specs.declared.table.Scheme.TheVariants as scheme

@@ -2,7 +2,8 @@
 -- docs/FORMATS.md, "Policy file", lists them in the order in which the first fault is told.
 use Rattle.std.specs.Prelude.{ℕ, ◌+◌, Bool, not, ◌||◌, nat_lt, List, length, take, Option, Some, None, slice_get, option_and_then, bytes_eq, if◌then◌else◌}
 use Rattle.std.specs.List.{list_any, sum_by}
-use Rattle.base_laws.specs.Firsts.{or_else, first_at}
+use Rattle.std.specs.Option.{option_or}
+use Rattle.base_laws.specs.Firsts.{first_at}
 use Rattle.mq_base.specs.declared.refusal.Refusal.{Refusal}
 use Rattle.mq_base.specs.Refusal.{refusal}
 use Rattle.policy_reader.specs.declared.raw.RawColumn.{RawColumn}
@@ -45,7 +46,7 @@ over limit number at = if nat_lt limit number then fault TooMany at 0 else None
 -- more than 16 subjects, more than 8 tables, more than 64 columns in all
 abbrev pub limit_fault : List (List ℕ) → List RawTable → Option Refusal
 limit_fault subjects tables =
-    or_else (over 16 (length subjects) 0) (or_else (over 8 (length tables) 1) (over 64 (column_count tables) 2))
+    option_or (over 16 (length subjects) 0) (option_or (over 8 (length tables) 1) (over 64 (column_count tables) 2))
 
 -- BadName where a name breaks the name rule, and else RepeatedName where it stands earlier
 abbrev pub name_fault : Bool → Bool → ℕ → ℕ → Option Refusal
@@ -74,12 +75,12 @@ columns_fault tables at =
 
 -- a table's name, and the names of its columns
 abbrev pub table_names_fault : List RawTable → ℕ → Option Refusal
-table_names_fault tables at = or_else (table_fault tables at) (columns_fault tables at)
+table_names_fault tables at = option_or (table_fault tables at) (columns_fault tables at)
 
 -- all names: the subjects, then for each table its name and its columns
 abbrev pub names_fault : List (List ℕ) → List RawTable → Option Refusal
 names_fault subjects tables =
-    or_else (first_at (subject_fault subjects) 0 (length subjects)) (first_at (table_names_fault tables) 0 (length tables))
+    option_or (first_at (subject_fault subjects) 0 (length subjects)) (first_at (table_names_fault tables) 0 (length tables))
 
 -- a table's owner is a subject
 abbrev pub owner_fault : List (List ℕ) → List RawTable → ℕ → Option Refusal

@@ -2,7 +2,8 @@
 -- in which the first fault is told.
 use Rattle.std.specs.Prelude.{ℕ, ◌+◌, Bool, not, ◌&&◌, ◌||◌, List, length, take, Option, Some, None, find, bytes_eq, if◌then◌else◌}
 use Rattle.std.specs.List.{list_any}
-use Rattle.base_laws.specs.Firsts.{or_else, first_at}
+use Rattle.std.specs.Option.{option_or}
+use Rattle.base_laws.specs.Firsts.{first_at}
 use Rattle.mq_base.specs.declared.refusal.Refusal.{Refusal}
 use Rattle.policy_reader.specs.declared.raw.RawColumn.{RawColumn}
 use Rattle.policy_reader.specs.declared.raw.RawTable.{RawTable}
@@ -35,7 +36,7 @@ plain_fault columns plain at place = test_at (unknown_fault columns at place) pl
 -- the string of `sealed` at a place; its item counts on from those of `plain`
 abbrev pub sealed_string_fault : List RawColumn → List (List ℕ) → ℕ → ℕ → List ℕ → Option Refusal
 sealed_string_fault columns plain at place name =
-    or_else (unknown_fault columns at (length plain + place) name) (overlap_fault plain at (length plain + place) name)
+    option_or (unknown_fault columns at (length plain + place) name) (overlap_fault plain at (length plain + place) name)
 
 abbrev pub sealed_fault : List RawColumn → List (List ℕ) → List (List ℕ) → ℕ → ℕ → Option Refusal
 sealed_fault columns plain sealed at place = test_at (sealed_string_fault columns plain at place) sealed place
@@ -43,7 +44,7 @@ sealed_fault columns plain sealed at place = test_at (sealed_string_fault column
 -- the strings of a rule: those of `plain`, then those of `sealed`
 abbrev pub strings_fault : List RawColumn → List (List ℕ) → List (List ℕ) → ℕ → Option Refusal
 strings_fault columns plain sealed at =
-    or_else (first_at (plain_fault columns plain at) 0 (length plain))
+    option_or (first_at (plain_fault columns plain at) 0 (length plain))
     (first_at (sealed_fault columns plain sealed at) 0 (length sealed))
 
 -- a rule for a table that the policy has
@@ -67,8 +68,8 @@ rule_fault subjects tables rules at =
 -- the first fault of a policy, in the order of the tests
 abbrev pub first_fault : RawPolicy → Option Refusal
 first_fault raw =
-    or_else (limit_fault raw.subjects raw.tables)
-    (or_else (names_fault raw.subjects raw.tables)
-    (or_else (first_at (owner_fault raw.subjects raw.tables) 0 (length raw.tables))
-    (or_else (user_fault raw.subjects raw.user)
+    option_or (limit_fault raw.subjects raw.tables)
+    (option_or (names_fault raw.subjects raw.tables)
+    (option_or (first_at (owner_fault raw.subjects raw.tables) 0 (length raw.tables))
+    (option_or (user_fault raw.subjects raw.user)
     (first_at (rule_fault raw.subjects raw.tables raw.rules) 0 (length raw.rules)))))

@@ -1,6 +1,6 @@
 -- The form of a policy file: the plain lists that a TOML tree stands for, where it has the form.
 -- docs/FORMATS.md, "Policy file", has the table of keys.
-use Rattle.std.specs.Prelude.{ℕ, List, [], ◌∷◌, Option, Some, None, bytes_eq, codes, if◌then◌else◌}
+use Rattle.std.specs.Prelude.{[], ◌∷◌, Option, Some, None, bytes_eq, codes, if◌then◌else◌}
 use Rattle.toml.specs.Data.{Data, Members, as_str, as_table}
 use Rattle.mq_base.specs.declared.value.ValueType.{ValueType}
 use Rattle.mq_base.specs.declared.value.ValueType.TheVariants as type

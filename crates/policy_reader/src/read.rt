@@ -1,6 +1,6 @@
 ghost use Rattle.std.specs.Prelude.{◌≡◌, IfOk};
 ghost use Rattle.mq_base.specs.Refusal.{Answers};
-ghost use Rattle.toml_tree.specs.Outcome.{judged};
+ghost use Rattle.base_laws.specs.Firsts.{judged};
 ghost use Rattle.policy_reader.specs.Accepted.{IsAccepted, IsGranted, IsStoredByOwners, SeesAsFiled};
 ghost use Rattle.policy_reader.specs.Codes.{told};
 ghost use Rattle.policy_reader.specs.Outcome.{policy_outcome, policy_value};
@@ -37,7 +37,7 @@ pub fn read_policy(alloc: Global, bytes: &[u8]) -> Result<Policy, PolicyNo>
 // The policy of lists that have the form, or their first fault.
 #[tactic(auto, using(crate::proofs::AcceptedLaws::accepts))]
 fn judge(alloc: Global, raw: RawPolicy) -> Result<Policy, PolicyNo>
-    ensures read { Answers told result (judged (policy_value raw) (first_fault raw)) }
+    ensures read { Answers told result (judged (first_fault raw) (policy_value raw)) }
     ensures accepted { IfOk result IsAccepted }
     ensures granted { IfOk result (IsGranted raw) }
     ensures version_1 { IfOk result IsStoredByOwners }

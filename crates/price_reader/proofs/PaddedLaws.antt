@@ -1,8 +1,9 @@
 -- How far a padded list has been made.
-use Rattle.std.proofs.Common.{◌≡◌, ℕ, zero, suc, ◌+◌, ◌-◌, ◌^◌, ◌<◌, ◌≤◌, List, [], ◌∷◌, ◌++◌, length, get_or, take, map, replicate, set, refl, ◌∙◌, ap, arith, append_assoc}
+use Rattle.std.proofs.Common.{◌≡◌, ℕ, suc, ◌+◌, ◌-◌, ◌^◌, ◌<◌, List, [], ◌++◌, length, get_or, take, map, replicate, set, refl, ◌∙◌, ap, arith, append_assoc}
 use Rattle.std.proofs.lemmas.List.{length-map, length-take, map_more, set_at}
 use Rattle.std.proofs.Math.Seq.{take-length}
 use Rattle.std.specs.Prelude.{slice_index}
+use Rattle.base_laws.proofs.PlaceLaws.{set-holds, replicate-holds}
 use Rattle.price_reader.specs.Outcome.{padded}
 use Rattle.price_reader.specs.inside.Checks.{Fits64, AllFit64}
 
@@ -26,34 +27,20 @@ pub padded_to-end : {A B : Type 0} (size : ℕ) (past : B) (value : A → B) (xs
     → padded_to size past value xs n ≡ padded size past value xs
 padded_to-end size past value xs n whole = rw (whole, take-length) refl
 
--- what holds of the values of a list, and of none, holds after a write too, and of a list of one value
-set_holds : {B : Type 0} (P : B → Type 0) (xs : List B) (i : ℕ) (x : B) (k : ℕ) (d : B) → ((j : ℕ) → P (get_or xs j d)) → P x
-    → P (get_or (set xs i x) k d)
-set_holds P [] i x k d each one = each k
-set_holds P (y ∷ xs) zero x zero d each one = one
-set_holds P (y ∷ xs) zero x (suc k) d each one = each (suc k)
-set_holds P (y ∷ xs) (suc i) x zero d each one = each 0
-set_holds P (y ∷ xs) (suc i) x (suc k) d each one = set_holds P xs i x k d (λ j. each (suc j)) one
-
-pub past_at : {B : Type 0} (P : B → Type 0) (n : ℕ) (past : B) (k : ℕ) (d : B) → P past → P d → P (get_or (replicate n past) k d)
-past_at P zero past k d of_past of_none = of_none
-past_at P (suc n) past zero d of_past of_none = of_past
-past_at P (suc n) past (suc k) d of_past of_none = past_at P n past k d of_past of_none
-
 zero_fits : 0 < 2 ^ 64
 zero_fits = omega arith
 
 -- numbers within 64 bits
 pub fits-start : (n : ℕ) → Fits64 (replicate n 0)
-fits-start n k = past_at (λ x. x < 2 ^ 64) n 0 k 0 zero_fits zero_fits
+fits-start n k = replicate-holds (λ x. x < 2 ^ 64) n 0 k 0 zero_fits zero_fits
 
 pub fits-set : (numbers : List ℕ) (i x : ℕ) → Fits64 numbers → x < 2 ^ 64 → Fits64 (set numbers i x)
-fits-set numbers i x each one k = set_holds (λ x. x < 2 ^ 64) numbers i x k 0 each one
+fits-set numbers i x each one k = set-holds (λ x. x < 2 ^ 64) numbers i x k 0 each one
 
 pub all_fit-start : (n : ℕ) → AllFit64 (replicate n (replicate 16 0))
-all_fit-start n k m = past_at (λ (row : List ℕ). slice_index row m < 2 ^ 64) n (replicate 16 0) k [] (fits-start 16 m) zero_fits
+all_fit-start n k m = replicate-holds (λ (row : List ℕ). slice_index row m < 2 ^ 64) n (replicate 16 0) k [] (fits-start 16 m) zero_fits
 
 pub all_fit-set : (lists : List (List ℕ)) (i : ℕ) (row : List ℕ) → AllFit64 lists → Fits64 row → AllFit64 (set lists i row)
-all_fit-set lists i row each one k m = set_holds (λ (row : List ℕ). slice_index row m < 2 ^ 64) lists i row k [] (λ j. each j m) (one m)
+all_fit-set lists i row each one k m = set-holds (λ (row : List ℕ). slice_index row m < 2 ^ 64) lists i row k [] (λ j. each j m) (one m)
 
 pub ruleset padding = (padded_to-more, padded_to-end, fits-start, fits-set, all_fit-start, all_fit-set)

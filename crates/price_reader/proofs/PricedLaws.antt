@@ -1,25 +1,25 @@
 -- What holds of prices whose lists have no fault.
-use Rattle.std.proofs.Common.{◌≡◌, ℕ, zero, suc, ◌+◌, ◌^◌, ◌<◌, ◌≤◌, ℤ, pos, negsuc, Bool, true, false, not, ◌||◌, List, [], ◌∷◌, ◌++◌, length, get_or, find, map, replicate, Option, Some, None, refl, sym, ◌∙◌, ap, arith, bytes_eq, cond}
-use Rattle.std.specs.Prelude.{slice_get, slice_index, unwrap_or, if◌then◌else◌}
+use Rattle.std.proofs.Common.{◌≡◌, ℕ, zero, suc, ◌<◌, ◌≤◌, ℤ, pos, negsuc, Bool, true, false, not, ◌||◌, List, [], ◌∷◌, ◌++◌, length, get_or, find, map, replicate, Option, Some, None, refl, ◌∙◌, ap, arith, bytes_eq, cond}
+use Rattle.std.specs.Prelude.{slice_get, slice_index, if◌then◌else◌}
 use Rattle.std.specs.List.{list_any}
+use Rattle.std.specs.Option.{option_or}
 use Rattle.std.proofs.lemmas.Bool.Decides.{nat_tests}
 use Rattle.std.proofs.lemmas.Option.{slice_get_within, slice_get-get_or}
 use Rattle.std.proofs.lemmas.Slice.Eq.{bytes_eq-Decides}
-use Rattle.base_laws.specs.Firsts.{or_else, first_at}
+use Rattle.base_laws.specs.Firsts.{first_at}
 use Rattle.base_laws.proofs.FirstLaws.{first_at-none, none_left}
+use Rattle.base_laws.proofs.PlaceLaws.{found_place, replicate-holds}
 use Rattle.mq_base.specs.declared.refusal.Refusal.{Refusal}
 use Rattle.policy_reader.specs.Names.{is_one_of}
-use Rattle.policy_reader.proofs.SeenLaws.{found_place}
 use Rattle.price_reader.specs.declared.raw.Entry.{Entry}
 use Rattle.price_reader.specs.declared.raw.Link.{Link}
 use Rattle.price_reader.specs.declared.raw.RawPrices.{RawPrices}
 use Rattle.price_reader.specs.declared.refusal.PriceCode.{PriceCode}
 use Rattle.price_reader.specs.declared.refusal.PriceCode.TheVariants.{UnknownName, OutOfRange, Missing}
-use Rattle.price_reader.specs.Faults.{fault, natural, is_out, is_entry, entry_fault, missing_fault, section_fault, net_fault, links_fault, sections_fault}
-use Rattle.price_reader.specs.Outcome.{padded, kept, number_for, numbers, price, prices_from, net_prices, sections_value}
+use Rattle.price_reader.specs.Faults.{fault, is_out, is_entry, entry_fault, missing_fault, section_fault, net_fault, links_fault, sections_fault}
+use Rattle.price_reader.specs.Outcome.{kept, number_for, numbers, price, prices_from, net_prices, sections_value}
 use Rattle.price_reader.specs.Priced.{IsPriced}
 use Rattle.price_reader.specs.inside.Checks.{Fits64, AllFit64}
-use Rattle.price_reader.proofs.PaddedLaws.{past_at}
 use Rattle.price_reader.specs.declared.prices.Prices.{Prices}
 
 -- what stands at a place of a padded list
@@ -32,7 +32,7 @@ padded_at n past value (y ∷ xs) (suc k) x d there = padded_at n past value xs 
 -- and what holds of the value past the last, and of none, holds past the last
 padded_past : {A B : Type 0} (P : B → Type 0) (n : ℕ) (past : B) (value : A → B) (xs : List A) (k : ℕ) (d : B) → slice_get xs k ≡ None
     → P past → P d → P (get_or (map value xs ++ replicate n past) k d)
-padded_past P n past value [] k d none of_past of_none = past_at P n past k d of_past of_none
+padded_past P n past value [] k d none of_past of_none = replicate-holds P n past k d of_past of_none
 padded_past P n past value (y ∷ xs) zero d none of_past of_none = cc
 padded_past P n past value (y ∷ xs) (suc k) d none of_past of_none = padded_past P n past value xs k d none of_past of_none
 
@@ -51,7 +51,7 @@ own_way_free : (subjects : List (List ℕ)) (default : ℤ) (links : List Link) 
 own_way_free subjects default links s = by_subject (slice_get subjects s) refl
   where
     no_row : slice_index (replicate 16 0) s ≡ 0
-    no_row = past_at (λ n. n ≡ 0) 16 0 s 0 refl refl
+    no_row = replicate-holds (λ n. n ≡ 0) 16 0 s 0 refl refl
 
     by_subject : (o : Option (List ℕ)) → slice_get subjects s ≡ o → slice_index (get_or (net_prices subjects default links) s []) s ≡ 0
     by_subject None none = padded_past (λ (row : List ℕ). slice_index row s ≡ 0) _ (replicate 16 0) (prices_from subjects default links) subjects s []
@@ -127,9 +127,9 @@ some_distinct : (subjects tables attributes : List (List ℕ)) (raw : RawPrices)
     → (a : ℕ) → a < length attributes → 1 ≤ slice_index (numbers 64 attributes raw.distinct.entries) a
 some_distinct subjects tables attributes raw none a below =
     let distinct = section_fault attributes 1 4 raw.distinct.entries in
-    let rows = or_else (section_fault tables 0 3 raw.rows.entries) distinct in
-    let links = or_else (links_fault subjects raw.links) rows in
-    let net = or_else (net_fault raw.net.default) links in
+    let rows = option_or (section_fault tables 0 3 raw.rows.entries) distinct in
+    let links = option_or (links_fault subjects raw.links) rows in
+    let net = option_or (net_fault raw.net.default) links in
     let one = none_left (section_fault subjects 0 0 raw.cpu.entries) net none in
     let two = none_left (net_fault raw.net.default) links one.1 in
     let three = none_left (links_fault subjects raw.links) rows two.1 in

@@ -2,8 +2,8 @@
 -- in which the first fault is told.
 use Rattle.std.specs.Prelude.{ℕ, ℤ, pos, negsuc, Bool, not, ◌&&◌, ◌||◌, true, nat_lt, List, length, take, Option, Some, None, bytes_eq, if◌then◌else◌}
 use Rattle.std.specs.List.{list_any}
-use Rattle.std.specs.Option.{option_map_or}
-use Rattle.base_laws.specs.Firsts.{or_else, first_at}
+use Rattle.std.specs.Option.{option_map_or, option_or}
+use Rattle.base_laws.specs.Firsts.{first_at}
 use Rattle.mq_base.specs.declared.refusal.Refusal.{Refusal}
 use Rattle.mq_base.specs.Refusal.{refusal}
 use Rattle.policy_reader.specs.declared.policy.Policy.{Policy}
@@ -52,7 +52,7 @@ missing_fault names at entries item = test_at
 -- a section: its entries in the byte order of their names, and then the names without an entry, by their ids
 abbrev pub section_fault : List (List ℕ) → ℕ → ℕ → List Entry → Option Refusal
 section_fault names least at entries =
-    or_else (first_at (entry_fault names least at entries) 0 (length entries))
+    option_or (first_at (entry_fault names least at entries) 0 (length entries))
     (first_at (missing_fault names at entries) 0 (length names))
 
 -- the default price
@@ -73,10 +73,10 @@ links_fault subjects links = first_at (link_fault subjects links) 0 (length link
 -- the first fault of the sections cpu, net, link, rows and distinct, in this order, for these subjects, tables and attributes
 abbrev pub sections_fault : List (List ℕ) → List (List ℕ) → List (List ℕ) → RawPrices → Option Refusal
 sections_fault subjects tables attributes raw =
-    or_else (section_fault subjects 0 0 raw.cpu.entries)
-    (or_else (net_fault raw.net.default)
-    (or_else (links_fault subjects raw.links)
-    (or_else (section_fault tables 0 3 raw.rows.entries)
+    option_or (section_fault subjects 0 0 raw.cpu.entries)
+    (option_or (net_fault raw.net.default)
+    (option_or (links_fault subjects raw.links)
+    (option_or (section_fault tables 0 3 raw.rows.entries)
     (section_fault attributes 1 4 raw.distinct.entries))))
 
 -- the first fault of a price file for a policy

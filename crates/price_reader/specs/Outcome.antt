@@ -1,6 +1,6 @@
 -- START HERE. The prices that the bytes of a file stand for, or their first fault: what `read_prices` answers.
 -- docs/FORMATS.md, "Price file", tells it in prose.
-use Rattle.std.specs.Prelude.{ℕ, ℤ, ◌-◌, List, [], ◌∷◌, ◌++◌, length, map, replicate, find, unwrap_or, Result, bytes_eq, if◌then◌else◌}
+use Rattle.std.specs.Prelude.{ℕ, ℤ, ◌-◌, List, ◌++◌, length, map, replicate, find, unwrap_or, Result, bytes_eq, if◌then◌else◌}
 use Rattle.std.specs.Option.{option_map_or}
 use Rattle.mq_base.specs.declared.refusal.Refusal.{Refusal}
 use Rattle.toml_tree.specs.Outcome.{file_outcome}

@@ -1,6 +1,6 @@
 ghost use Rattle.std.specs.Prelude.{◌≡◌, ◌≤◌, IfOk, length, map};
 ghost use Rattle.mq_base.specs.Refusal.{Answers};
-ghost use Rattle.toml_tree.specs.Outcome.{judged};
+ghost use Rattle.base_laws.specs.Firsts.{judged};
 ghost use Rattle.policy_reader.specs.Accepted.{IsAccepted};
 ghost use Rattle.price_reader.specs.Codes.{told};
 ghost use Rattle.price_reader.specs.Faults.{first_fault, sections_fault};
@@ -37,7 +37,7 @@ pub fn read_prices(alloc: Global, bytes: &[u8], policy: &Policy) -> Result<Price
 // The prices of lists that have the form, or their first fault.
 fn judge(alloc: Global, raw: &RawPrices, policy: &Policy) -> Result<Prices, PriceNo>
     requires { IsAccepted policy.now }
-    ensures read { Answers told result (judged (prices_value policy.now raw.now) (first_fault policy.now raw.now)) }
+    ensures read { Answers told result (judged (first_fault policy.now raw.now) (prices_value policy.now raw.now)) }
     ensures priced { IfOk result (IsPriced (length policy.now.schema.attrs)) }
 {
     let tables = table_names(alloc, policy.schema.tables.as_slice())?;
@@ -61,7 +61,7 @@ fn judge_for(
     requires few_subjects { length subjects.now ≤ 16 }
     requires few_tables { length tables.now ≤ 8 }
     requires few_attributes { length attributes.now ≤ 64 }
-    ensures read { Answers told result (judged (sections_value subjects.now tables.now attributes.now raw.now) (sections_fault subjects.now tables.now attributes.now raw.now)) }
+    ensures read { Answers told result (judged (sections_fault subjects.now tables.now attributes.now raw.now) (sections_value subjects.now tables.now attributes.now raw.now)) }
     ensures priced { IfOk result (IsPriced (length attributes.now)) }
 {
     match check(raw, subjects, tables, attributes) {

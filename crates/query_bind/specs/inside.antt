@@ -2,4 +2,3 @@
 pub mod Results
 pub mod Gathered
 pub mod Ranges
-pub mod Small

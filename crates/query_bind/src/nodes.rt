@@ -1,19 +1,18 @@
-ghost use Rattle.std.specs.Prelude.{◌≡◌, ◌≤◌, ◌-◌, ◌^◌, if◌then◌else◌, All, List, min, ℕ};
-ghost use Rattle.std.specs.List.{flat_map, list_any};
-ghost use Rattle.base_laws.specs.Sets.{with_members};
-ghost use Rattle.mq_base.specs.Nodes.{cond_attributes, is_of, is_of_some, joins, node_count, projects, unjoined, used_set, visible_set};
+ghost use Rattle.std.specs.Prelude.{◌≡◌, ◌≤◌, ◌-◌, ◌^◌, if◌then◌else◌, min};
+ghost use Rattle.std.specs.List.{list_any};
+ghost use Rattle.mq_base.specs.Nodes.{is_of, is_of_some, joins, node_count, unjoined};
+ghost use Rattle.mq_base.specs.Small.{HasSmallIds};
 ghost use Rattle.query_bind.specs.Faults.{nodes_fault};
 ghost use Rattle.query_bind.specs.inside.Results.{fault_of};
-ghost use Rattle.query_bind.specs.inside.Small.{AreSmall, IsSmall, agg_attributes, item_attributes};
 
 use crate::fault::{Fault, refuse_if};
 use crate::names::table_of;
 use crate::refusal::BindCode;
-use mq_base::{Agg, AttrId, AttrSet, Cond, Item, Query, Schema, TableId};
+use mq_base::{AttrId, Cond, Query, Schema, TableId};
 
 /// The plan of the query has at most 64 nodes.
 pub fn check_nodes(schema: &Schema, query: &Query) -> Result<(), Fault>
-    requires { IsSmall query.now }
+    requires { HasSmallIds query.now }
     ensures { fault_of result ≡ nodes_fault schema.now query.now }
 {
     refuse_if(node_count(schema, query) > 64, BindCode::TooManyNodes, 0)
@@ -22,12 +21,12 @@ pub fn check_nodes(schema: &Schema, query: &Query) -> Result<(), Fault>
 // The number of nodes of the query's plan, cut at the largest number.
 #[tactic(auto, unfolding(mq_base::specs::Nodes::node_count))]
 fn node_count(schema: &Schema, query: &Query) -> usize
-    requires { IsSmall query.now }
+    requires { HasSmallIds query.now }
     ensures { result ≡ min (node_count schema.now query.now) (2 ^ 64 - 1) }
 {
     let tables = query.tables.as_slice();
     let conds = query.conds.as_slice();
-    let ends = usize::from(query.grouped) + usize::from(projects(query));
+    let ends = usize::from(query.grouped) + usize::from(query.projects());
     tables
         .len()
         .saturating_add(conds.len())
@@ -91,92 +90,5 @@ fn is_of(schema: &Schema, t: TableId, a: AttrId) -> bool
     match table_of(schema, a) {
         Some(owner) => owner.0 == t.0,
         None => false,
-    }
-}
-
-// Whether a projection ends the plan.
-#[tactic(auto, using(crate::proofs::NodeLaws::names))]
-fn projects(query: &Query) -> bool
-    requires { IsSmall query.now }
-    ensures { result ≡ projects query.now }
-{
-    with_each(AttrSet::EMPTY, query.items.as_slice()).0 != visible_set(query).0
-}
-
-// The attributes that are visible before the selected ones are kept.
-#[tactic(auto, using(crate::proofs::NodeLaws::names))]
-fn visible_set(query: &Query) -> AttrSet
-    requires { IsSmall query.now }
-    ensures { result.0 ≡ visible_set query.now }
-{
-    if query.grouped {
-        with_each(query.group, query.aggs.as_slice())
-    } else {
-        used_set(query)
-    }
-}
-
-// All attributes that the query names.
-#[tactic(auto, using(crate::proofs::NodeLaws::names))]
-fn used_set(query: &Query) -> AttrSet
-    requires { IsSmall query.now }
-    ensures { result.0 ≡ used_set query.now }
-{
-    let selected = with_each(query.group, query.items.as_slice());
-    let compared = with_each(selected, query.conds.as_slice());
-    with_each(compared, query.aggs.as_slice())
-}
-
-// A part of a query with ids, which names attributes.
-trait Named {
-    // The attributes.
-    ghost attributes: { Self → List ℕ };
-
-    // A set with each of them.
-    fn add_to(&self, set: AttrSet) -> AttrSet
-        requires { AreSmall (attributes self.now) }
-        ensures { result.0 ≡ with_members set.0 (attributes self.now) };
-}
-
-// A set with the attributes of each part.
-#[tactic(auto, using(crate::proofs::NodeLaws::sets))]
-fn with_each<T: Named>(from: AttrSet, parts: &[T]) -> AttrSet
-    requires { All (λ x. AreSmall (T.attributes x)) parts.now }
-    ensures { result.0 ≡ with_members from.0 (flat_map T.attributes parts.now) }
-{
-    let mut set = from;
-    for part in parts {
-        set = part.add_to(set);
-    }
-    set
-}
-
-impl Named for Item {
-    ghost attributes = { item_attributes };
-
-    fn add_to(&self, set: AttrSet) -> AttrSet {
-        match self {
-            Item::Attr(a) => set.with(*a),
-            Item::Count => set,
-        }
-    }
-}
-
-impl Named for Cond {
-    ghost attributes = { cond_attributes };
-
-    fn add_to(&self, set: AttrSet) -> AttrSet {
-        match self {
-            Cond::Const(a, _, _) => set.with(*a),
-            Cond::Attrs(a, _, b) => set.with(*a).with(*b),
-        }
-    }
-}
-
-impl Named for (AttrId, Agg) {
-    ghost attributes = { agg_attributes };
-
-    fn add_to(&self, set: AttrSet) -> AttrSet {
-        set.with(self.0)
     }
 }

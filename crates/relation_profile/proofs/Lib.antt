@@ -1,4 +1,3 @@
 mod Examples
-pub mod CutLaws
 pub mod ViewLaws
 pub mod WalkLaws

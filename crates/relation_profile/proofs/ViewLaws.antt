@@ -17,7 +17,7 @@ use Rattle.mq_base.specs.declared.table.Scheme.{Scheme}
 use Rattle.relation_profile.specs.Runnable.{run_dec, run_enc, run_one, run_two, runs_one, runs_two}
 use Rattle.relation_profile.specs.Steps.{after_dec, after_enc, after_one, after_two, imply, leaf_profile}
 use Rattle.relation_profile.specs.View.{profile_of, view_of, IsView}
-use Rattle.relation_profile.proofs.CutLaws.{cut-kept, within-both, within-common, within-cut, within-less, within-more, without-both, without-common, without-cut, without-less, without-more}
+use Rattle.base_laws.proofs.CutLaws.{cut-kept, within-both, within-common, within-cut, within-less, within-more, without-both, without-common, without-cut, without-less, without-more}
 
 -- a view cut to a set
 abbrev pub cut_to : View → ℕ → View

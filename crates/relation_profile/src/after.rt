@@ -8,7 +8,7 @@ ghost use Rattle.relation_profile.specs.inside.Seen.{showing};
 
 use crate::runnable::{all_comparable, are_comparable, is_comparable, may_fold_all};
 use crate::seen::Seen;
-use crate::set::{holds, single};
+use crate::set::holds;
 use crate::view::View;
 use mq_base::{AttrId, AttrSet, CmpOp, PlanOp, Scheme};
 use plan_algebra::NodeFacts;
@@ -60,7 +60,7 @@ fn after_one(op: &PlanOp, facts: &NodeFacts, into: AttrSet, view: &View) -> View
 {
     match op {
         PlanOp::Project(_) => cut(*view, into),
-        PlanOp::SelConst(a, _, _) => imply(facts, single(*a), view),
+        PlanOp::SelConst(a, _, _) => imply(facts, AttrSet::of(*a), view),
         PlanOp::Group(by, _, _) => cut(imply(facts, *by, view), into),
         _ => *view,
     }
@@ -128,7 +128,7 @@ pub fn enc(facts: &NodeFacts, a: AttrId, view: &View) -> Option<View>
 {
     if holds(Seen::at(facts, view).plain, a) {
         Some(View {
-            enc: view.enc.union(single(a)),
+            enc: view.enc.union(AttrSet::of(a)),
             ip: view.ip,
             ie: view.ie,
         })
@@ -143,7 +143,7 @@ pub fn dec(facts: &NodeFacts, a: AttrId, view: &View) -> Option<View>
 {
     if holds(view.enc, a) {
         Some(View {
-            enc: view.enc.difference(single(a)),
+            enc: view.enc.difference(AttrSet::of(a)),
             ip: view.ip,
             ie: view.ie,
         })

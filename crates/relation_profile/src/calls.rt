@@ -1,6 +1,6 @@
 ghost use Rattle.std.specs.Prelude.{◌≡◌, ◌<◌, length, option_map, IfSome};
 ghost use Rattle.plan_algebra.specs.declared.kind.Kind.TheVariants as kind;
-ghost use Rattle.plan_algebra.specs.Facts.{facts_at, node_at};
+ghost use Rattle.plan_algebra.specs.Facts.{node_at};
 ghost use Rattle.plan_algebra.specs.Kinds.{kind_of};
 ghost use Rattle.relation_profile.specs.Nodes.{IsBinary, IsUnary, IsViewAt, binary_after, leaf_at, profile_at, unary_after};
 ghost use Rattle.relation_profile.specs.Runnable.{run_dec, run_enc};
@@ -9,7 +9,7 @@ ghost use Rattle.relation_profile.specs.View.{view_of};
 use crate::after::{dec, enc, one, two};
 use crate::view::View;
 use mq_base::{AttrId, AttrSet, NodeId, Scheme};
-use plan_algebra::{Kind, NodeFacts, PlanFacts};
+use plan_algebra::{Kind, PlanFacts};
 
 /// The view of a leaf, where the attributes in `rest` are sealed at rest and no other ones are. docs/MODEL.md, "Relation
 /// profile". It takes no memory.
@@ -46,7 +46,7 @@ pub fn after_unary(
         Kind::One(x) => one(
             schemes,
             facts.operation(node),
-            facts_at(facts, x),
+            facts.facts(x),
             facts.visible(node),
             view,
         ),
@@ -74,8 +74,8 @@ pub fn after_binary(
         Kind::Two(x, y) => two(
             schemes,
             facts.operation(node),
-            facts_at(facts, x),
-            facts_at(facts, y),
+            facts.facts(x),
+            facts.facts(y),
             left,
             right,
         ),
@@ -92,7 +92,7 @@ pub fn after_enc(facts: &PlanFacts, node: NodeId, a: AttrId, view: &View) -> Opt
     ensures stands { option_map (profile_at facts.now node.0) result ≡ run_enc a.0 (profile_at facts.now node.0 view.now) }
     ensures within { IfSome result (IsViewAt facts.now node.0) }
 {
-    enc(facts_at(facts, node), a, view)
+    enc(facts.facts(node), a, view)
 }
 
 /// The view of a node after the decryption of an attribute: None exactly where it is not visible encrypted, as one that the
@@ -104,13 +104,5 @@ pub fn after_dec(facts: &PlanFacts, node: NodeId, a: AttrId, view: &View) -> Opt
     ensures stands { option_map (profile_at facts.now node.0) result ≡ run_dec a.0 (profile_at facts.now node.0 view.now) }
     ensures within { IfSome result (IsViewAt facts.now node.0) }
 {
-    dec(facts_at(facts, node), a, view)
-}
-
-// The facts of a node.
-fn facts_at(facts: &PlanFacts, n: NodeId) -> &NodeFacts
-    requires { n.0 < length facts.now.plan.nodes }
-    ensures { result.now ≡ facts_at facts.now.nodes n.0 }
-{
-    &facts.nodes.as_slice()[usize::from(n.0)]
+    dec(facts.facts(node), a, view)
 }

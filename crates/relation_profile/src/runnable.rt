@@ -8,7 +8,6 @@ ghost use Rattle.relation_profile.specs.inside.Seen.{showing};
 
 use crate::scheme::offers;
 use crate::seen::Seen;
-use crate::set::{least, single};
 use mq_base::{Agg, AttrId, AttrSet, CmpOp, Scheme};
 
 // Whether an attribute is sealed under a scheme that supports the comparison.
@@ -59,11 +58,11 @@ pub fn all_comparable(schemes: &[Scheme; 64], cmp: CmpOp, set: AttrSet, seen: Se
     ensures { result ≡ runnable.all_comparable schemes.now cmp set.0 (showing seen) }
 {
     let mut left = set.difference(seen.plain);
-    while let Some(a) = least(left) {
+    while let Some(a) = left.first() {
         if !is_comparable(schemes, cmp, a, seen) {
             return false;
         }
-        left = left.difference(single(a));
+        left = left.difference(AttrSet::of(a));
     }
     true
 }

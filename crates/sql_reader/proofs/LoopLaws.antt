@@ -4,6 +4,7 @@ use Rattle.std.proofs.lemmas.List.{append-nil, length-map}
 use Rattle.sql_lexer.specs.declared.token.Token.{Token}
 use Rattle.sql_lexer.specs.Lexing.{Lexeme, lexeme}
 use Rattle.sql_reader.specs.Readers.{Reading, Took, Stuck, next_is, give, and_then, bind, many_within, many}
+use Rattle.sql_reader.specs.declared.reached.Reached.{Reached}
 use Rattle.sql_reader.specs.declared.stop.Stop.{Stop}
 use Rattle.sql_reader.specs.declared.stop.Stop.TheVariants.{Unexpected, NoMemory}
 use Rattle.sql_reader.specs.inside.Answers.{Refuses, left}
@@ -26,13 +27,13 @@ carry-next xs x (Took ys rest) = ap (λ zs. Took zs rest) (sym (append_assoc xs 
 carry-next xs x (Stuck place) = refl
 
 -- at the start the first was read
-pub stands-start : {X : Type 0} (test : Lexeme → Bool) (q : List Lexeme → Reading X) (x : X) (tokens : List Token) (at : ℕ)
-    → Stands (bind (many test q) (λ xs. give (x ∷ xs)) (left tokens at)) test q (x ∷ []) (length tokens - at) (left tokens at)
+pub stands-start : {X : Type 0} (test : Lexeme → Bool) (q : List Lexeme → Reading X) (x : X) (tokens : List Token) (from : Reached)
+    → Stands (bind (many test q) (λ xs. give (x ∷ xs)) (left tokens from)) test q (x ∷ []) (length tokens - from.at) (left tokens from)
 unfolding many
-stands-start test q x tokens at =
-    let turns : length (left tokens at) ≡ length tokens - at = omega (arith, length-drop at (map lexeme tokens), length-map tokens lexeme) in
+stands-start test q x tokens from =
+    let turns : length (left tokens from) ≡ length tokens - from.at = omega (arith, length-drop from.at (map lexeme tokens), length-map tokens lexeme) in
     record {
-      goes_on = carry-first x (many test q (left tokens at)) ∙ ap (λ n. carry (x ∷ []) (many_within n test q (left tokens at))) turns;
+      goes_on = carry-first x (many test q (left tokens from)) ∙ ap (λ n. carry (x ∷ []) (many_within n test q (left tokens from))) turns;
     }
 
 -- at each turn one more is read

@@ -148,7 +148,7 @@ literal_marks = mark.Number ∷ mark.Text ∷ []
 abbrev pub function_marks : List Mark
 function_marks = mark.Keyword keyword.Sum ∷ mark.Keyword keyword.Min ∷ mark.Keyword keyword.Max ∷ []
 
-op-is : (k : Mark) (x : _) → op_marked k ≡ Some x → has (mark_number k) op_marks ≡ true
+pub op-is : (k : Mark) (x : _) → op_marked k ≡ Some x → has (mark_number k) op_marks ≡ true
 op-is mark.Eq x is = refl
 op-is mark.Ne x is = refl
 op-is mark.Lt x is = refl
@@ -171,7 +171,7 @@ literal-is mark.Number t x is = refl
 literal-is mark.Text t x is = refl
 literal-is _ t x is = cc
 
-function-is : (k : Mark) (at : ℕ) (x : Function) → function_marked k at ≡ Some x → has (mark_number k) function_marks ≡ true
+pub function-is : (k : Mark) (at : ℕ) (x : Function) → function_marked k at ≡ Some x → has (mark_number k) function_marks ≡ true
 function-is (mark.Keyword keyword.Sum) at x is = refl
 function-is (mark.Keyword keyword.Min) at x is = refl
 function-is (mark.Keyword keyword.Max) at x is = refl

@@ -10,7 +10,9 @@ use Rattle.std.specs.Str.Parse.{digits_value}
 use Rattle.std.proofs.lemmas.Bool.Decides.{nat_tests}
 use Rattle.std.proofs.lemmas.Fmt.{digits_decimal, digits_value-decimal, decimal_nonempty}
 use Rattle.std.proofs.lemmas.Str.Parse.{IsNumeralModel, numerals_by_value, tells_all_ascii_digits}
-use Rattle.word_forms.specs.Integers.{minus, natural_of, int_of, fits_64_bits, within_64_bits, integer_of}
+use Rattle.base_laws.specs.Ranges.{fits_64_bits}
+use Rattle.base_laws.proofs.RangeLaws.{fits_64_bits-Decides}
+use Rattle.word_forms.specs.Integers.{minus, natural_of, int_of, within_64_bits, integer_of}
 use Rattle.word_forms.proofs.IntegerLaws.{natural_of-digits}
 use Rattle.sql_lexer.specs.Longest.{AreDigits, IsNumber}
 use Rattle.base_laws.proofs.BoolLaws.{both}
@@ -51,10 +53,10 @@ digits_number (d ∷ ds) digits = inl digits
 
 -- a number within 64 bits is less than 2 ^ 64 without its sign
 pos_small : (n : ℕ) → fits_64_bits (pos n) ≡ true → n < 2 ^ 64
-pos_small n fits = grind (arith, nat_tests)
+pos_small n fits = let is = (fits_64_bits-Decides (pos n)).0 fits in omega (arith, is.sfits)
 
 negsuc_small : (n : ℕ) → fits_64_bits (negsuc n) ≡ true → suc n < 2 ^ 64
-negsuc_small n fits = grind (arith, nat_tests)
+negsuc_small n fits = let is = (fits_64_bits-Decides (negsuc n)).0 fits in omega (arith, is.sfits)
 
 pub signed_decimal-number : (z : ℤ) → fits_64_bits z ≡ true → IsNumber (signed_decimal z)
 signed_decimal-number (pos n) fits = digits_number (decimal n) (decimal_digits n (pos_small n fits))

@@ -1,8 +1,10 @@
 -- Tokens one by one: the next of a list, and what its mark says of its text.
-use Rattle.std.proofs.Common.{◌≡◌, ℕ, ◌+◌, ◌-◌, ◌<◌, ◌≤◌, Bool, true, false, List, [], ◌∷◌, ◌++◌, map, length, take, drop, get_or, Option, Some, None, IsUtf8, suc, refl, sym, ap, subst, ◌∙◌, arith, length-append}
-use Rattle.std.specs.Prelude.{All, find, option_map, slice_index_or, IfSome, is_some, nat_lt, codes, bytes_eq, if◌then◌else◌}
+use Rattle.std.proofs.Common.{◌≡◌, ℕ, ◌+◌, ◌-◌, ◌<◌, ◌≤◌, Bool, true, false, ◌||◌, List, [], ◌∷◌, ◌++◌, map, length, take, drop, get_or, Option, Some, None, IsUtf8, suc, refl, sym, ap, subst, ◌∙◌, arith, length-append}
+use Rattle.std.specs.Prelude.{All, slice_index_or, IfSome, is_some, nat_lt, codes, bytes_eq, if◌then◌else◌}
+use Rattle.std.specs.Option.{option_or}
 use Rattle.std.specs.Borrow.{Bor}
 use Rattle.std.specs.Str.{IsCharBoundary}
+use Rattle.std.proofs.lemmas.Bool.{eqb-true}
 use Rattle.std.proofs.lemmas.List.{drop-map, drop_more, drop_all, length-map}
 use borrow.Author.Tests.{ltb-true, ltb-false}
 use Rattle.std.proofs.lemmas.List.Elements.{All-drop, All-head}
@@ -10,6 +12,7 @@ use Rattle.std.proofs.Math.Seq.{get_or-append_seam}
 use Rattle.std.proofs.lemmas.Str.{IsCharBoundary-after_ascii}
 use Rattle.word_forms.specs.declared.keyword.Keyword.{Keyword}
 use Rattle.word_forms.specs.Keywords.{keyword_of}
+use Rattle.mq_base.specs.declared.query.CmpOp.{CmpOp}
 use Rattle.sql_lexer.specs.declared.token.TokenKind.{TokenKind}
 use Rattle.sql_lexer.specs.declared.token.TokenKind.TheVariants as kind
 use Rattle.sql_lexer.specs.declared.token.Token.{Token}
@@ -18,10 +21,11 @@ use Rattle.sql_lexer.specs.Longest.{IsText, IsToken, AreLongest}
 use Rattle.sql_lexer.specs.Slices.{AreSlices}
 use Rattle.sql_reader.specs.declared.mark.Mark.{Mark}
 use Rattle.sql_reader.specs.declared.mark.Mark.TheVariants as mark
-use Rattle.sql_reader.specs.Marks.{word_mark_of, symbol_mark, kind_mark, mark_number}
+use Rattle.sql_reader.specs.Marks.{word_mark_of, symbol_mark, kind_mark, mark_number, mark_of, is_mark, is_one_of}
+use Rattle.sql_reader.specs.Grammar.{Function, op_marked, function_in}
 use Rattle.sql_reader.specs.Reading.{is_wide}
-use Rattle.sql_reader.specs.Outcome.{wide_place}
-use Rattle.sql_reader.specs.inside.Answers.{IsWhole, AreWhole, with_next}
+use Rattle.sql_reader.specs.inside.Answers.{IsWhole, AreWhole, IsNoNumber, KeepsWide, wide_in, with_next}
+use Rattle.sql_reader.proofs.MarkLaws.{apart, are_apart, op_marks, op-is, function_marks, function-is}
 
 -- the next token of whole ones is whole
 pub next-whole : (ts : List Token) (at : ℕ) (t : Lexeme) (rest : List Lexeme) → AreWhole ts → drop at (map lexeme ts) ≡ t ∷ rest → IsWhole t
@@ -101,21 +105,38 @@ tokens-whole source ts slices longest k d below =
     let text : take (length x.text) (drop x.at source) ≡ x.text = slices.slices k d below in
     subst (IsToken x.kind) text ((longest.longest k d below).token)
 
--- the first token outside 64 bits, as a search for it finds it
-find_lexeme : (test : Lexeme → Bool) (ts : List Token) → find test (map lexeme ts) ≡ option_map lexeme (find (λ t. test (lexeme t)) ts)
-find_lexeme test [] = refl
-find_lexeme test (t ∷ ts) = by_test (test (lexeme t)) (find_lexeme test ts)
+-- a token with one of these marks, none of which is that of a number, is no number outside 64 bits
+narrow_by_marks : (marks : List Mark) → are_apart marks (mark.Number ∷ []) ≡ true → (t : Lexeme) → is_one_of marks t ≡ true → false ≡ is_wide t
+narrow_by_marks marks are t found = by_test (is_mark mark.Number t) refl (apart marks (mark.Number ∷ []) are t found)
   where
-    by_test : (b : Bool) → find test (map lexeme ts) ≡ option_map lexeme (find (λ t. test (lexeme t)) ts)
-        → (if b then Some (lexeme t) else find test (map lexeme ts)) ≡ option_map lexeme (if b then Some t else find (λ t. test (lexeme t)) ts)
-    by_test true later = refl
-    by_test false later = later
+    by_test : (b : Bool) → is_mark mark.Number t ≡ b → (b || false) ≡ false → false ≡ is_wide t
+    by_test true number none = cc
+    by_test false other none = rw other refl
 
-place_of-found : (found : Option (Bor Token)) → option_map (λ x. x.at) (option_map lexeme (option_map (λ t. t.now) found)) ≡ option_map (λ t. t.now.at) found
-place_of-found None = refl
-place_of-found (Some t) = refl
+pub narrow_sign : (k : Mark) (t : Lexeme) → IsNoNumber k → true ≡ is_mark k t → false ≡ is_wide t
+narrow_sign k t none is =
+    let same : mark_number (mark_of t) ≡ mark_number k = eqb-true (mark_number (mark_of t)) (mark_number k) (sym is) in
+    rw (same, none) refl
 
-pub wide_place-found : (ts : List Token) (found : Option (Bor Token)) → option_map (λ t. t.now) found ≡ find (λ t. is_wide (lexeme t)) ts
-    → wide_place (map lexeme ts) ≡ option_map (λ t. t.now.at) found
-wide_place-found ts found is =
-    ap (option_map (λ (x : Lexeme). x.at)) (find_lexeme is_wide ts ∙ ap (option_map lexeme) (sym is)) ∙ place_of-found found
+pub narrow_op : (k : Mark) (t : Lexeme) (op : CmpOp) → k ≡ mark_of t → Some op ≡ op_marked k → false ≡ is_wide t
+narrow_op k t op of_token is = narrow_by_marks op_marks refl t (op-is (mark_of t) op (ap op_marked (sym of_token) ∙ sym is))
+
+pub narrow_function : (t : Lexeme) (f : Function) → Some f ≡ function_in t → false ≡ is_wide t
+narrow_function t f is = narrow_by_marks function_marks refl t (function-is (mark_of t) t.at f (sym is))
+
+-- behind a token the first number outside 64 bits is the one that was found, or this token where it is one
+pub keeps_wide : (found : Option ℕ) (t : Lexeme) (wide : Bool) → wide ≡ is_wide t → KeepsWide found t (option_or found (if wide then Some t.at else None))
+keeps_wide (Some place) t wide is rest = refl
+keeps_wide None t true is rest = rw (← is) refl
+keeps_wide None t false is rest = rw (← is) refl
+
+-- where no token is left it is the one that was found
+pub wide_at_end : (found : Option ℕ) → wide_in found [] ≡ found
+wide_at_end None = refl
+wide_at_end (Some place) = refl
+
+-- what was found stays the first as far as the tokens are read
+pub kept_past : (found later : Option ℕ) (t : Lexeme) (rest all : List Lexeme) → KeepsWide found t later → all ≡ t ∷ rest → wide_in later rest ≡ wide_in found all
+kept_past found later t rest all keeps is = keeps rest ∙ ap (wide_in found) (sym is)
+
+pub ruleset narrow = (narrow_sign, narrow_op, narrow_function, kept_past, wide_at_end)

@@ -8,6 +8,7 @@ ghost use Rattle.sql_reader.specs.inside.Answers.{AreWhole, Gives, left};
 use crate::lists::{Phrase, listed};
 use crate::mark::Mark;
 use crate::raw::{RawCol, RawCond, RawSide};
+use crate::reached::Reached;
 use crate::stop::Stop;
 use crate::terminals::{literal, next_is, op, token};
 use mq_base::Seq;
@@ -17,10 +18,10 @@ use word_forms::Keyword;
 
 /// A column: a name, or a table's name, a dot and a name.
 #[tactic(auto, unfolding(crate::specs::Grammar::column))]
-pub fn column<'a>(tokens: &[Token<'a>], at: usize) -> Result<(RawCol<'a>, usize), Stop>
-    ensures { Gives column_of tokens.now result (grammar.column.read (left tokens.now at)) }
+pub fn column<'a>(tokens: &[Token<'a>], from: Reached) -> Result<(RawCol<'a>, Reached), Stop>
+    ensures { Gives column_of tokens.now from result (grammar.column.read (left tokens.now from)) }
 {
-    let (first, after) = token(tokens, at, Mark::Name)?;
+    let (first, after) = token(tokens, from, Mark::Name)?;
     if !next_is(tokens, after, &[Mark::Dot]) {
         return Ok((
             RawCol {
@@ -45,25 +46,25 @@ pub fn column<'a>(tokens: &[Token<'a>], at: usize) -> Result<(RawCol<'a>, usize)
 
 // The right side of a comparison: a column or a literal.
 #[tactic(auto, unfolding(crate::specs::Grammar::side))]
-fn side<'a>(tokens: &[Token<'a>], at: usize) -> Result<(RawSide<'a>, usize), Stop>
+fn side<'a>(tokens: &[Token<'a>], from: Reached) -> Result<(RawSide<'a>, Reached), Stop>
     requires { AreWhole tokens.now }
-    ensures { Gives side_of tokens.now result (grammar.side.read (left tokens.now at)) }
+    ensures { Gives side_of tokens.now from result (grammar.side.read (left tokens.now from)) }
 {
-    if next_is(tokens, at, &[Mark::Name]) {
-        let (col, after) = column(tokens, at)?;
+    if next_is(tokens, from, &[Mark::Name]) {
+        let (col, after) = column(tokens, from)?;
         return Ok((RawSide::Col(col), after));
     }
-    let (lit, after) = literal(tokens, at)?;
+    let (lit, after) = literal(tokens, from)?;
     Ok((RawSide::Lit(lit), after))
 }
 
 // A condition: a column, a comparison, and a column or a literal.
 #[tactic(auto, unfolding(crate::specs::Grammar::condition))]
-fn condition<'a>(tokens: &[Token<'a>], at: usize) -> Result<(RawCond<'a>, usize), Stop>
+fn condition<'a>(tokens: &[Token<'a>], from: Reached) -> Result<(RawCond<'a>, Reached), Stop>
     requires { AreWhole tokens.now }
-    ensures { Gives condition_of tokens.now result (grammar.condition.read (left tokens.now at)) }
+    ensures { Gives condition_of tokens.now from result (grammar.condition.read (left tokens.now from)) }
 {
-    let (left, after) = column(tokens, at)?;
+    let (left, after) = column(tokens, from)?;
     let (op, after) = op(tokens, after)?;
     let (right, after) = side(tokens, after)?;
     Ok((RawCond { left, op, right }, after))
@@ -76,8 +77,12 @@ impl<'a> Phrase<'a> for RawCond<'a> {
 
     ghost further = { grammar.behind (mark.Keyword keyword.And) grammar.condition };
 
-    fn next(_alloc: Global, tokens: &[Token<'a>], at: usize) -> Result<(RawCond<'a>, usize), Stop> {
-        let (_, after) = token(tokens, at, Mark::Keyword(Keyword::And))?;
+    fn next(
+        _alloc: Global,
+        tokens: &[Token<'a>],
+        from: Reached,
+    ) -> Result<(RawCond<'a>, Reached), Stop> {
+        let (_, after) = token(tokens, from, Mark::Keyword(Keyword::And))?;
         condition(tokens, after)
     }
 }
@@ -87,11 +92,11 @@ impl<'a> Phrase<'a> for RawCond<'a> {
 pub fn conditions<'a>(
     alloc: Global,
     tokens: &[Token<'a>],
-    at: usize,
-) -> Result<(Seq<RawCond<'a>>, usize), Stop>
+    from: Reached,
+) -> Result<(Seq<RawCond<'a>>, Reached), Stop>
     requires { AreWhole tokens.now }
-    ensures { Gives (map condition_of) tokens.now result (grammar.conditions.read (left tokens.now at)) }
+    ensures { Gives (map condition_of) tokens.now from result (grammar.conditions.read (left tokens.now from)) }
 {
-    let (first, after) = condition(tokens, at)?;
+    let (first, after) = condition(tokens, from)?;
     listed(alloc, tokens, first, after, &[Mark::Keyword(Keyword::And)])
 }

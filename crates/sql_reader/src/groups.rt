@@ -10,6 +10,7 @@ use crate::items::aggregate;
 use crate::lists::{Phrase, listed};
 use crate::mark::Mark;
 use crate::raw::{RawCol, RawHaving};
+use crate::reached::Reached;
 use crate::stop::Stop;
 use crate::terminals::{literal, next_is, op, token};
 use mq_base::Seq;
@@ -28,11 +29,11 @@ pub struct Groups<'a> {
 
 // A condition of HAVING: an aggregate, a comparison and a literal.
 #[tactic(auto, unfolding(crate::specs::Grammar::having))]
-fn having<'a>(tokens: &[Token<'a>], at: usize) -> Result<(RawHaving<'a>, usize), Stop>
+fn having<'a>(tokens: &[Token<'a>], from: Reached) -> Result<(RawHaving<'a>, Reached), Stop>
     requires { AreWhole tokens.now }
-    ensures { Gives having_of tokens.now result (grammar.having.read (left tokens.now at)) }
+    ensures { Gives having_of tokens.now from result (grammar.having.read (left tokens.now from)) }
 {
-    let (item, after) = aggregate(tokens, at)?;
+    let (item, after) = aggregate(tokens, from)?;
     let (op, after) = op(tokens, after)?;
     let (lit, after) = literal(tokens, after)?;
     Ok((RawHaving { item, op, lit }, after))
@@ -48,9 +49,9 @@ impl<'a> Phrase<'a> for RawHaving<'a> {
     fn next(
         _alloc: Global,
         tokens: &[Token<'a>],
-        at: usize,
-    ) -> Result<(RawHaving<'a>, usize), Stop> {
-        let (_, after) = token(tokens, at, Mark::Keyword(Keyword::And))?;
+        from: Reached,
+    ) -> Result<(RawHaving<'a>, Reached), Stop> {
+        let (_, after) = token(tokens, from, Mark::Keyword(Keyword::And))?;
         having(tokens, after)
     }
 }
@@ -60,15 +61,15 @@ impl<'a> Phrase<'a> for RawHaving<'a> {
 fn havings<'a>(
     alloc: Global,
     tokens: &[Token<'a>],
-    at: usize,
-) -> Result<(Seq<RawHaving<'a>>, usize), Stop>
+    from: Reached,
+) -> Result<(Seq<RawHaving<'a>>, Reached), Stop>
     requires { AreWhole tokens.now }
-    ensures { Gives (map having_of) tokens.now result (grammar.havings.read (left tokens.now at)) }
+    ensures { Gives (map having_of) tokens.now from result (grammar.havings.read (left tokens.now from)) }
 {
-    if !next_is(tokens, at, &[Mark::Keyword(Keyword::Having)]) {
-        return Ok((Seq::new(alloc), at));
+    if !next_is(tokens, from, &[Mark::Keyword(Keyword::Having)]) {
+        return Ok((Seq::new(alloc), from));
     }
-    let (_, after) = token(tokens, at, Mark::Keyword(Keyword::Having))?;
+    let (_, after) = token(tokens, from, Mark::Keyword(Keyword::Having))?;
     let (first, after) = having(tokens, after)?;
     listed(alloc, tokens, first, after, &[Mark::Keyword(Keyword::And)])
 }
@@ -80,8 +81,12 @@ impl<'a> Phrase<'a> for RawCol<'a> {
 
     ghost further = { grammar.behind mark.Comma grammar.column };
 
-    fn next(_alloc: Global, tokens: &[Token<'a>], at: usize) -> Result<(RawCol<'a>, usize), Stop> {
-        let (_, after) = token(tokens, at, Mark::Comma)?;
+    fn next(
+        _alloc: Global,
+        tokens: &[Token<'a>],
+        from: Reached,
+    ) -> Result<(RawCol<'a>, Reached), Stop> {
+        let (_, after) = token(tokens, from, Mark::Comma)?;
         column(tokens, after)
     }
 }
@@ -91,12 +96,12 @@ impl<'a> Phrase<'a> for RawCol<'a> {
 fn grouped_by<'a>(
     alloc: Global,
     tokens: &[Token<'a>],
-    at: usize,
-) -> Result<(Groups<'a>, usize), Stop>
+    from: Reached,
+) -> Result<(Groups<'a>, Reached), Stop>
     requires { AreWhole tokens.now }
-    ensures { Gives grouping_of tokens.now result (grammar.grouped_by.read (left tokens.now at)) }
+    ensures { Gives grouping_of tokens.now from result (grammar.grouped_by.read (left tokens.now from)) }
 {
-    let (_, after) = token(tokens, at, Mark::Keyword(Keyword::Group))?;
+    let (_, after) = token(tokens, from, Mark::Keyword(Keyword::Group))?;
     let (_, after) = token(tokens, after, Mark::Keyword(Keyword::By))?;
     let (first, after) = column(tokens, after)?;
     let (group, after) = listed(alloc, tokens, first, after, &[Mark::Comma])?;
@@ -109,17 +114,17 @@ fn grouped_by<'a>(
 pub fn grouping<'a>(
     alloc: Global,
     tokens: &[Token<'a>],
-    at: usize,
-) -> Result<(Groups<'a>, usize), Stop>
+    from: Reached,
+) -> Result<(Groups<'a>, Reached), Stop>
     requires { AreWhole tokens.now }
-    ensures { Gives grouping_of tokens.now result (grammar.grouping.read (left tokens.now at)) }
+    ensures { Gives grouping_of tokens.now from result (grammar.grouping.read (left tokens.now from)) }
 {
-    if next_is(tokens, at, &[Mark::Keyword(Keyword::Group)]) {
-        return grouped_by(alloc, tokens, at);
+    if next_is(tokens, from, &[Mark::Keyword(Keyword::Group)]) {
+        return grouped_by(alloc, tokens, from);
     }
     let none = Groups {
         group: Seq::new(alloc),
         having: Seq::new(alloc),
     };
-    Ok((none, at))
+    Ok((none, from))
 }

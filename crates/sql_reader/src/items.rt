@@ -8,6 +8,7 @@ use crate::conditions::column;
 use crate::lists::{Phrase, listed};
 use crate::mark::Mark;
 use crate::raw::RawItem;
+use crate::reached::Reached;
 use crate::stop::Stop;
 use crate::terminals::{function, next_is, token};
 use mq_base::Seq;
@@ -17,10 +18,10 @@ use word_forms::Keyword;
 
 // SUM, MIN or MAX over a column.
 #[tactic(auto, unfolding(crate::specs::Grammar::over_column))]
-fn over_column<'a>(tokens: &[Token<'a>], at: usize) -> Result<(RawItem<'a>, usize), Stop>
-    ensures { Gives item_of tokens.now result (grammar.over_column.read (left tokens.now at)) }
+fn over_column<'a>(tokens: &[Token<'a>], from: Reached) -> Result<(RawItem<'a>, Reached), Stop>
+    ensures { Gives item_of tokens.now from result (grammar.over_column.read (left tokens.now from)) }
 {
-    let (word, after) = function(tokens, at)?;
+    let (word, after) = function(tokens, from)?;
     let (_, after) = token(tokens, after, Mark::Open)?;
     let (col, after) = column(tokens, after)?;
     let (_, after) = token(tokens, after, Mark::Close)?;
@@ -36,10 +37,10 @@ fn over_column<'a>(tokens: &[Token<'a>], at: usize) -> Result<(RawItem<'a>, usiz
 
 // `COUNT(*)`.
 #[tactic(auto, unfolding(crate::specs::Grammar::count))]
-fn count<'a>(tokens: &[Token<'a>], at: usize) -> Result<(RawItem<'a>, usize), Stop>
-    ensures { Gives item_of tokens.now result (grammar.count.read (left tokens.now at)) }
+fn count<'a>(tokens: &[Token<'a>], from: Reached) -> Result<(RawItem<'a>, Reached), Stop>
+    ensures { Gives item_of tokens.now from result (grammar.count.read (left tokens.now from)) }
 {
-    let (word, after) = token(tokens, at, Mark::Keyword(Keyword::Count))?;
+    let (word, after) = token(tokens, from, Mark::Keyword(Keyword::Count))?;
     let (_, after) = token(tokens, after, Mark::Open)?;
     let (_, after) = token(tokens, after, Mark::Star)?;
     let (_, after) = token(tokens, after, Mark::Close)?;
@@ -48,25 +49,25 @@ fn count<'a>(tokens: &[Token<'a>], at: usize) -> Result<(RawItem<'a>, usize), St
 
 /// A function over a column, or the count.
 #[tactic(auto, unfolding(crate::specs::Grammar::aggregate))]
-pub fn aggregate<'a>(tokens: &[Token<'a>], at: usize) -> Result<(RawItem<'a>, usize), Stop>
-    ensures { Gives item_of tokens.now result (grammar.aggregate.read (left tokens.now at)) }
+pub fn aggregate<'a>(tokens: &[Token<'a>], from: Reached) -> Result<(RawItem<'a>, Reached), Stop>
+    ensures { Gives item_of tokens.now from result (grammar.aggregate.read (left tokens.now from)) }
 {
-    if next_is(tokens, at, &[Mark::Keyword(Keyword::Count)]) {
-        count(tokens, at)
+    if next_is(tokens, from, &[Mark::Keyword(Keyword::Count)]) {
+        count(tokens, from)
     } else {
-        over_column(tokens, at)
+        over_column(tokens, from)
     }
 }
 
 // An item of a select list.
 #[tactic(auto, unfolding(crate::specs::Grammar::item))]
-fn item<'a>(tokens: &[Token<'a>], at: usize) -> Result<(RawItem<'a>, usize), Stop>
-    ensures { Gives item_of tokens.now result (grammar.item.read (left tokens.now at)) }
+fn item<'a>(tokens: &[Token<'a>], from: Reached) -> Result<(RawItem<'a>, Reached), Stop>
+    ensures { Gives item_of tokens.now from result (grammar.item.read (left tokens.now from)) }
 {
-    if !next_is(tokens, at, &[Mark::Name]) {
-        return aggregate(tokens, at);
+    if !next_is(tokens, from, &[Mark::Name]) {
+        return aggregate(tokens, from);
     }
-    let (col, after) = column(tokens, at)?;
+    let (col, after) = column(tokens, from)?;
     Ok((RawItem::Col(col), after))
 }
 
@@ -77,8 +78,12 @@ impl<'a> Phrase<'a> for RawItem<'a> {
 
     ghost further = { grammar.behind mark.Comma grammar.item };
 
-    fn next(_alloc: Global, tokens: &[Token<'a>], at: usize) -> Result<(RawItem<'a>, usize), Stop> {
-        let (_, after) = token(tokens, at, Mark::Comma)?;
+    fn next(
+        _alloc: Global,
+        tokens: &[Token<'a>],
+        from: Reached,
+    ) -> Result<(RawItem<'a>, Reached), Stop> {
+        let (_, after) = token(tokens, from, Mark::Comma)?;
         item(tokens, after)
     }
 }
@@ -88,11 +93,11 @@ impl<'a> Phrase<'a> for RawItem<'a> {
 pub fn items<'a>(
     alloc: Global,
     tokens: &[Token<'a>],
-    at: usize,
-) -> Result<(Seq<RawItem<'a>>, usize), Stop>
+    from: Reached,
+) -> Result<(Seq<RawItem<'a>>, Reached), Stop>
     requires { AreWhole tokens.now }
-    ensures { Gives (map item_of) tokens.now result (grammar.items.read (left tokens.now at)) }
+    ensures { Gives (map item_of) tokens.now from result (grammar.items.read (left tokens.now from)) }
 {
-    let (first, after) = item(tokens, at)?;
+    let (first, after) = item(tokens, from)?;
     listed(alloc, tokens, first, after, &[Mark::Comma])
 }

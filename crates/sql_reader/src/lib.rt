@@ -10,6 +10,7 @@ mod lists;
 mod mark;
 mod print;
 mod raw;
+mod reached;
 mod reader;
 mod refusal;
 mod sources;

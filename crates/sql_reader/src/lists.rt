@@ -5,6 +5,7 @@ ghost use Rattle.sql_reader.specs.Rules.{Rule};
 ghost use Rattle.sql_reader.specs.inside.Answers.{AreWhole, Gives, left};
 
 use crate::mark::Mark;
+use crate::reached::Reached;
 use crate::stop::Stop;
 use crate::terminals::next_is;
 use mq_base::Seq;
@@ -22,9 +23,9 @@ pub trait Phrase<'a>: Drop {
     ghost further: { Rule Plain };
 
     /// A part behind the first, and the place behind it.
-    fn next(alloc: Global, tokens: &[Token<'a>], at: usize) -> Result<(Self, usize), Stop>
+    fn next(alloc: Global, tokens: &[Token<'a>], from: Reached) -> Result<(Self, Reached), Stop>
         requires { AreWhole tokens.now }
-        ensures { Gives plain tokens.now result (further.read (left tokens.now at)) };
+        ensures { Gives plain tokens.now from result (further.read (left tokens.now from)) };
 }
 
 /// The list of a first part and those behind it, each of which begins with one of the marks; and the place behind it.
@@ -32,17 +33,17 @@ pub fn listed<'a, P: Phrase<'a>>(
     alloc: Global,
     tokens: &[Token<'a>],
     first: P,
-    at: usize,
+    from: Reached,
     marks: &[Mark],
-) -> Result<(Seq<P>, usize), Stop>
+) -> Result<(Seq<P>, Reached), Stop>
     requires { AreWhole tokens.now }
-    ensures { Gives (map P.plain) tokens.now result
-        (bind (many (is_one_of marks.now) P.further.read) (λ xs. give (P.plain first ∷ xs)) (left tokens.now at)) }
+    ensures { Gives (map P.plain) tokens.now from result
+        (bind (many (is_one_of marks.now) P.further.read) (λ xs. give (P.plain first ∷ xs)) (left tokens.now from)) }
 {
     let mut found = Seq::new(alloc);
     found.push(first)?;
-    let mut after = at;
-    'each: for _turn in at..tokens.len() {
+    let mut after = from;
+    'each: for _turn in from.at..tokens.len() {
         if !next_is(tokens, after, marks) {
             break;
         }

@@ -1,7 +1,7 @@
 ghost use Rattle.std.specs.Prelude.{◌≡◌, ◌≤◌, true, ℕ, List, ◌++◌, codes, drop, length, map, option_map, All, IsUtf8, OnOk, IfOk};
 ghost use Rattle.std.specs.Fmt.{signed_decimal};
 ghost use Rattle.std.specs.String.{string_bytes};
-ghost use Rattle.word_forms.specs.Integers.{fits_64_bits};
+ghost use Rattle.base_laws.specs.Ranges.{fits_64_bits};
 ghost use Rattle.sql_reader.specs.Syntax.{column_of, literal_of, side_of, condition_of, item_of, source_of, having_of, query_of};
 ghost use Rattle.sql_reader.specs.Syntax as syntax;
 ghost use Rattle.sql_reader.specs.Spelling as spelling;

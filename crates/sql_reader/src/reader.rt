@@ -1,10 +1,10 @@
-ghost use Rattle.std.specs.Prelude.{◌≡◌, ◌≤◌, find, length, map, option_map, IfOk};
+ghost use Rattle.std.specs.Prelude.{◌≡◌, ◌≤◌, length, map, IfOk};
 ghost use Rattle.std.specs.Result.{result_map_both};
 ghost use Rattle.mq_base.specs.Refusal.{Answers};
 ghost use Rattle.sql_lexer.specs.Lexing.{lexeme};
 ghost use Rattle.sql_reader.specs.Codes.{query_refusal};
 ghost use Rattle.sql_reader.specs.Syntax.{query_of};
-ghost use Rattle.sql_reader.specs.Reading.{IsRead, is_wide};
+ghost use Rattle.sql_reader.specs.Reading.{IsRead};
 ghost use Rattle.sql_reader.specs.Grammar as grammar;
 ghost use Rattle.sql_reader.specs.Outcome.{query_outcome, read_outcome, wide_place};
 ghost use Rattle.sql_reader.specs.Writable.{IsWritable};
@@ -14,33 +14,38 @@ use crate::groups::grouping;
 use crate::items::items;
 use crate::mark::Mark;
 use crate::raw::RawQuery;
+use crate::reached::Reached;
 use crate::refusal::SqlNo;
 use crate::sources::{filters, sources};
 use crate::stop::Stop;
-use crate::terminals::{is_mark, next, next_is, token};
+use crate::terminals::{next, next_is, token};
 use sql_lexer::{Token, tokens};
 use std::alloc::Global;
-use word_forms::{Keyword, integer};
+use word_forms::Keyword;
 
 // The semicolon at the end, if it stands there.
 #[tactic(auto, unfolding(crate::specs::Grammar::ending))]
-fn end(tokens: &[Token<'_>], at: usize) -> Result<((), usize), Stop>
-    ensures { Gives (λ _. tt) tokens.now result (grammar.ending.read (left tokens.now at)) }
+fn end(tokens: &[Token<'_>], from: Reached) -> Result<((), Reached), Stop>
+    ensures { Gives (λ _. tt) tokens.now from result (grammar.ending.read (left tokens.now from)) }
 {
-    if !next_is(tokens, at, &[Mark::Semicolon]) {
-        return Ok(((), at));
+    if !next_is(tokens, from, &[Mark::Semicolon]) {
+        return Ok(((), from));
     }
-    let (_, after) = token(tokens, at, Mark::Semicolon)?;
+    let (_, after) = token(tokens, from, Mark::Semicolon)?;
     Ok(((), after))
 }
 
 // A query, and the place behind it.
 #[tactic(auto, unfolding(crate::specs::Grammar::query, crate::specs::Grammar::tail))]
-fn query<'a>(alloc: Global, tokens: &[Token<'a>], at: usize) -> Result<(RawQuery<'a>, usize), Stop>
+fn query<'a>(
+    alloc: Global,
+    tokens: &[Token<'a>],
+    from: Reached,
+) -> Result<(RawQuery<'a>, Reached), Stop>
     requires { AreWhole tokens.now }
-    ensures { Gives query_of tokens.now result (grammar.query.read (left tokens.now at)) }
+    ensures { Gives query_of tokens.now from result (grammar.query.read (left tokens.now from)) }
 {
-    let (_, after) = token(tokens, at, Mark::Keyword(Keyword::Select))?;
+    let (_, after) = token(tokens, from, Mark::Keyword(Keyword::Select))?;
     let (items, after) = items(alloc, tokens, after)?;
     let (_, after) = token(tokens, after, Mark::Keyword(Keyword::From))?;
     let (sources, after) = sources(alloc, tokens, after)?;
@@ -59,46 +64,23 @@ fn query<'a>(alloc: Global, tokens: &[Token<'a>], at: usize) -> Result<(RawQuery
     ))
 }
 
-// Whether a token is a number outside 64 bits.
-fn is_wide(token: &Token<'_>) -> bool
-    ensures { result ≡ is_wide (lexeme token.now) }
-{
-    is_mark(token, Mark::Number) && integer(token.text.as_bytes()).is_none()
-}
-
-// The first number outside 64 bits.
-fn first_wide<'t, 'a>(tokens: &'t [Token<'a>]) -> Option<&'t Token<'a>>
-    ensures { option_map (λ t. t.now) result ≡ find (λ t. is_wide (lexeme t)) tokens.now }
-{
-    tokens.iter().find(|token| is_wide(token))
-}
-
-// The place of the first number outside 64 bits.
-fn wide_place(tokens: &[Token<'_>]) -> Option<u32>
-    ensures { result ≡ wide_place (map lexeme tokens.now) }
-{
-    match first_wide(tokens) {
-        Some(token) => Some(token.at),
-        None => None,
-    }
-}
-
 // What the tokens of a text that ends at this place read as.
+#[tactic(auto, using(crate::proofs::TokenLaws::narrow))]
 fn read_tokens<'a>(alloc: Global, tokens: &[Token<'a>], end: u32) -> Result<RawQuery<'a>, SqlNo>
     requires { AreWhole tokens.now }
     ensures { Answers query_refusal (result_map_both query_of (λ e. e) result) (read_outcome end (wide_place (map lexeme tokens.now)) (grammar.query.read (map lexeme tokens.now))) }
 {
-    let (found, after) = match query(alloc, tokens, 0) {
+    let (found, after) = match query(alloc, tokens, Reached::start()) {
         Ok(read) => read,
         Err(Stop::Unexpected(place)) => return Err(SqlNo::Unexpected {
             at: place.unwrap_or(end),
         }),
         Err(Stop::NoMemory) => return Err(SqlNo::NoMemory),
     };
-    if let Some(token) = next(tokens, after) {
+    if let Some(token) = next(tokens, after.at) {
         return Err(SqlNo::Unexpected { at: token.at });
     }
-    match wide_place(tokens) {
+    match after.wide {
         Some(at) => Err(SqlNo::NumberRange { at }),
         None => Ok(found),
     }

@@ -8,6 +8,7 @@ use crate::conditions::conditions;
 use crate::lists::{Phrase, listed};
 use crate::mark::Mark;
 use crate::raw::{RawCond, RawSource};
+use crate::reached::Reached;
 use crate::stop::Stop;
 use crate::terminals::{next_is, token};
 use mq_base::Seq;
@@ -20,11 +21,11 @@ use word_forms::Keyword;
 fn first_source<'a>(
     alloc: Global,
     tokens: &[Token<'a>],
-    at: usize,
-) -> Result<(RawSource<'a>, usize), Stop>
-    ensures { Gives source_of tokens.now result (grammar.first_source.read (left tokens.now at)) }
+    from: Reached,
+) -> Result<(RawSource<'a>, Reached), Stop>
+    ensures { Gives source_of tokens.now from result (grammar.first_source.read (left tokens.now from)) }
 {
-    let (name, after) = token(tokens, at, Mark::Name)?;
+    let (name, after) = token(tokens, from, Mark::Name)?;
     Ok((
         RawSource {
             table: name.text,
@@ -39,11 +40,11 @@ fn first_source<'a>(
 fn behind_comma<'a>(
     alloc: Global,
     tokens: &[Token<'a>],
-    at: usize,
-) -> Result<(RawSource<'a>, usize), Stop>
-    ensures { Gives source_of tokens.now result ((grammar.behind mark.Comma grammar.first_source).read (left tokens.now at)) }
+    from: Reached,
+) -> Result<(RawSource<'a>, Reached), Stop>
+    ensures { Gives source_of tokens.now from result ((grammar.behind mark.Comma grammar.first_source).read (left tokens.now from)) }
 {
-    let (_, after) = token(tokens, at, Mark::Comma)?;
+    let (_, after) = token(tokens, from, Mark::Comma)?;
     first_source(alloc, tokens, after)
 }
 
@@ -52,12 +53,12 @@ fn behind_comma<'a>(
 fn joined<'a>(
     alloc: Global,
     tokens: &[Token<'a>],
-    at: usize,
-) -> Result<(RawSource<'a>, usize), Stop>
+    from: Reached,
+) -> Result<(RawSource<'a>, Reached), Stop>
     requires { AreWhole tokens.now }
-    ensures { Gives source_of tokens.now result (grammar.joined.read (left tokens.now at)) }
+    ensures { Gives source_of tokens.now from result (grammar.joined.read (left tokens.now from)) }
 {
-    let (_, after) = token(tokens, at, Mark::Keyword(Keyword::Join))?;
+    let (_, after) = token(tokens, from, Mark::Keyword(Keyword::Join))?;
     let (name, after) = token(tokens, after, Mark::Name)?;
     let (_, after) = token(tokens, after, Mark::Keyword(Keyword::On))?;
     let (on, after) = conditions(alloc, tokens, after)?;
@@ -76,15 +77,15 @@ fn joined<'a>(
 fn source<'a>(
     alloc: Global,
     tokens: &[Token<'a>],
-    at: usize,
-) -> Result<(RawSource<'a>, usize), Stop>
+    from: Reached,
+) -> Result<(RawSource<'a>, Reached), Stop>
     requires { AreWhole tokens.now }
-    ensures { Gives source_of tokens.now result (grammar.source.read (left tokens.now at)) }
+    ensures { Gives source_of tokens.now from result (grammar.source.read (left tokens.now from)) }
 {
-    if next_is(tokens, at, &[Mark::Comma]) {
-        behind_comma(alloc, tokens, at)
+    if next_is(tokens, from, &[Mark::Comma]) {
+        behind_comma(alloc, tokens, from)
     } else {
-        joined(alloc, tokens, at)
+        joined(alloc, tokens, from)
     }
 }
 
@@ -98,9 +99,9 @@ impl<'a> Phrase<'a> for RawSource<'a> {
     fn next(
         alloc: Global,
         tokens: &[Token<'a>],
-        at: usize,
-    ) -> Result<(RawSource<'a>, usize), Stop> {
-        source(alloc, tokens, at)
+        from: Reached,
+    ) -> Result<(RawSource<'a>, Reached), Stop> {
+        source(alloc, tokens, from)
     }
 }
 
@@ -109,12 +110,12 @@ impl<'a> Phrase<'a> for RawSource<'a> {
 pub fn sources<'a>(
     alloc: Global,
     tokens: &[Token<'a>],
-    at: usize,
-) -> Result<(Seq<RawSource<'a>>, usize), Stop>
+    from: Reached,
+) -> Result<(Seq<RawSource<'a>>, Reached), Stop>
     requires { AreWhole tokens.now }
-    ensures { Gives (map source_of) tokens.now result (grammar.sources.read (left tokens.now at)) }
+    ensures { Gives (map source_of) tokens.now from result (grammar.sources.read (left tokens.now from)) }
 {
-    let (first, after) = first_source(alloc, tokens, at)?;
+    let (first, after) = first_source(alloc, tokens, from)?;
     listed(
         alloc,
         tokens,
@@ -129,14 +130,14 @@ pub fn sources<'a>(
 pub fn filters<'a>(
     alloc: Global,
     tokens: &[Token<'a>],
-    at: usize,
-) -> Result<(Seq<RawCond<'a>>, usize), Stop>
+    from: Reached,
+) -> Result<(Seq<RawCond<'a>>, Reached), Stop>
     requires { AreWhole tokens.now }
-    ensures { Gives (map condition_of) tokens.now result (grammar.filters.read (left tokens.now at)) }
+    ensures { Gives (map condition_of) tokens.now from result (grammar.filters.read (left tokens.now from)) }
 {
-    if !next_is(tokens, at, &[Mark::Keyword(Keyword::Where)]) {
-        return Ok((Seq::new(alloc), at));
+    if !next_is(tokens, from, &[Mark::Keyword(Keyword::Where)]) {
+        return Ok((Seq::new(alloc), from));
     }
-    let (_, after) = token(tokens, at, Mark::Keyword(Keyword::Where))?;
+    let (_, after) = token(tokens, from, Mark::Keyword(Keyword::Where))?;
     conditions(alloc, tokens, after)
 }

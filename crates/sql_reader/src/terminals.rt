@@ -1,15 +1,18 @@
-ghost use Rattle.std.specs.Prelude.{◌≡◌, ◌+◌, map, option_map};
+ghost use Rattle.std.specs.Prelude.{◌≡◌, ◌+◌, is_none, map, option_map, IfSome};
+ghost use Rattle.word_forms.specs.Integers.{integer_of};
 ghost use Rattle.sql_lexer.specs.Lexing.{lexeme};
 ghost use Rattle.sql_lexer.specs.Longest.{IsText};
 ghost use Rattle.sql_reader.specs.Marks.{is_mark, is_one_of};
-ghost use Rattle.sql_reader.specs.Syntax.{literal_of};
+ghost use Rattle.sql_reader.specs.Syntax.{literal_of, Number};
 ghost use Rattle.sql_reader.specs.Grammar.{function_in, function_marked, inside_of, literal_in, op_marked, number_in};
+ghost use Rattle.sql_reader.specs.Reading.{is_wide};
 ghost use Rattle.sql_reader.specs.Readers.{next_is};
 ghost use Rattle.sql_reader.specs.Grammar as grammar;
-ghost use Rattle.sql_reader.specs.inside.Answers.{AreWhole, Gives, IsWhole, function_of, left, with_next};
+ghost use Rattle.sql_reader.specs.inside.Answers.{AreWhole, Gives, IsNoNumber, IsWhole, function_of, left, tokens_from, with_next};
 
 use crate::mark::{Mark, mark_of};
 use crate::raw::RawLit;
+use crate::reached::Reached;
 use crate::stop::Stop;
 use mq_base::{Agg, CmpOp};
 use sql_lexer::Token;
@@ -26,7 +29,7 @@ pub struct FunctionWord {
 
 /// The next token, if there is one.
 pub fn next<'t, 'a>(tokens: &'t [Token<'a>], at: usize) -> Option<&'t Token<'a>>
-    ensures { left tokens.now at ≡ with_next result (left tokens.now (at + 1)) }
+    ensures { tokens_from tokens.now at ≡ with_next result (tokens_from tokens.now (at + 1)) }
 {
     tokens.get(at)
 }
@@ -46,21 +49,27 @@ fn is_one_of(token: &Token<'_>, marks: &[Mark]) -> bool
 }
 
 /// Whether there is a next token, and it has one of these marks.
-pub fn next_is(tokens: &[Token<'_>], at: usize, marks: &[Mark]) -> bool
-    ensures { result ≡ next_is (is_one_of marks.now) (left tokens.now at) }
+pub fn next_is(tokens: &[Token<'_>], from: Reached, marks: &[Mark]) -> bool
+    ensures { result ≡ next_is (is_one_of marks.now) (left tokens.now from) }
 {
-    match next(tokens, at) {
+    match next(tokens, from.at) {
         Some(token) => is_one_of(token, marks),
         None => false,
     }
 }
 
-/// A token of this mark.
-pub fn token<'a>(tokens: &[Token<'a>], at: usize, mark: Mark) -> Result<(Token<'a>, usize), Stop>
-    ensures { Gives lexeme tokens.now result ((grammar.sign mark).read (left tokens.now at)) }
+/// A token of this mark, which is not that of a number.
+#[tactic(auto, using(crate::proofs::TokenLaws::narrow))]
+pub fn token<'a>(
+    tokens: &[Token<'a>],
+    from: Reached,
+    mark: Mark,
+) -> Result<(Token<'a>, Reached), Stop>
+    requires { IsNoNumber mark }
+    ensures { Gives lexeme tokens.now from result ((grammar.sign mark).read (left tokens.now from)) }
 {
-    match next(tokens, at) {
-        Some(token) if is_mark(token, mark) => Ok((*token, at + 1)),
+    match next(tokens, from.at) {
+        Some(token) if is_mark(token, mark) => Ok((*token, from.past(token, false))),
         Some(token) => Err(Stop::Unexpected(Some(token.at))),
         None => Err(Stop::Unexpected(None)),
     }
@@ -82,14 +91,15 @@ fn op_marked(mark: Mark) -> Option<CmpOp>
 }
 
 /// A comparison.
-pub fn op(tokens: &[Token<'_>], at: usize) -> Result<(CmpOp, usize), Stop>
-    ensures { Gives (λ op. op) tokens.now result (grammar.op.read (left tokens.now at)) }
+#[tactic(auto, using(crate::proofs::TokenLaws::narrow))]
+pub fn op(tokens: &[Token<'_>], from: Reached) -> Result<(CmpOp, Reached), Stop>
+    ensures { Gives (λ op. op) tokens.now from result (grammar.op.read (left tokens.now from)) }
 {
-    let Some(token) = next(tokens, at) else {
+    let Some(token) = next(tokens, from.at) else {
         return Err(Stop::Unexpected(None));
     };
     match op_marked(mark_of(token)) {
-        Some(op) => Ok((op, at + 1)),
+        Some(op) => Ok((op, from.past(token, false))),
         None => Err(Stop::Unexpected(Some(token.at))),
     }
 }
@@ -102,28 +112,59 @@ fn inside(text: &str) -> &str
     &text[1..text.len() - 1]
 }
 
-// The literal that a token is, if it is one. A number outside 64 bits reads as 0: its text is refused in the end.
-fn literal_in<'a>(token: &Token<'a>) -> Option<RawLit<'a>>
+// A literal as its token spells it.
+#[derive(Clone, Copy, Debug)]
+struct SpelledLiteral<'a> {
+    // The literal. A number outside 64 bits reads as 0: its text is refused in the end.
+    literal: RawLit<'a>,
+    // Whether it is a number outside 64 bits.
+    is_wide: bool,
+}
+
+// The number that a token is.
+fn number_in<'a>(token: &Token<'a>) -> SpelledLiteral<'a>
+    ensures value { literal_of result.literal ≡ Number (number_in (lexeme token.now)) }
+    ensures wide { result.is_wide ≡ is_none (integer_of token.now.text.now) }
+{
+    match integer(token.text.as_bytes()) {
+        Some(value) => SpelledLiteral {
+            literal: RawLit::Number(value),
+            is_wide: false,
+        },
+        None => SpelledLiteral {
+            literal: RawLit::Number(0),
+            is_wide: true,
+        },
+    }
+}
+
+// The literal that a token is, if it is one.
+fn literal_in<'a>(token: &Token<'a>) -> Option<SpelledLiteral<'a>>
     requires { IsWhole (lexeme token.now) }
-    ensures { option_map literal_of result ≡ literal_in (lexeme token.now) }
+    ensures value { option_map (λ s. literal_of s.literal) result ≡ literal_in (lexeme token.now) }
+    ensures wide { IfSome result (λ s. s.is_wide ≡ is_wide (lexeme token.now)) }
 {
     match mark_of(token) {
-        Mark::Number => Some(RawLit::Number(integer(token.text.as_bytes()).unwrap_or(0))),
-        Mark::Text => Some(RawLit::Text(inside(token.text))),
+        Mark::Number => Some(number_in(token)),
+        Mark::Text => Some(SpelledLiteral {
+            literal: RawLit::Text(inside(token.text)),
+            is_wide: false,
+        }),
         _ => None,
     }
 }
 
 /// A literal.
-pub fn literal<'a>(tokens: &[Token<'a>], at: usize) -> Result<(RawLit<'a>, usize), Stop>
+#[tactic(auto, using(crate::proofs::TokenLaws::narrow))]
+pub fn literal<'a>(tokens: &[Token<'a>], from: Reached) -> Result<(RawLit<'a>, Reached), Stop>
     requires { AreWhole tokens.now }
-    ensures { Gives literal_of tokens.now result (grammar.literal.read (left tokens.now at)) }
+    ensures { Gives literal_of tokens.now from result (grammar.literal.read (left tokens.now from)) }
 {
-    let Some(token) = next(tokens, at) else {
+    let Some(token) = next(tokens, from.at) else {
         return Err(Stop::Unexpected(None));
     };
     match literal_in(token) {
-        Some(literal) => Ok((literal, at + 1)),
+        Some(found) => Ok((found.literal, from.past(token, found.is_wide))),
         None => Err(Stop::Unexpected(Some(token.at))),
     }
 }
@@ -142,14 +183,15 @@ fn function_in(token: &Token<'_>) -> Option<FunctionWord>
 }
 
 /// SUM, MIN or MAX.
-pub fn function(tokens: &[Token<'_>], at: usize) -> Result<(FunctionWord, usize), Stop>
-    ensures { Gives function_of tokens.now result (grammar.function.read (left tokens.now at)) }
+#[tactic(auto, using(crate::proofs::TokenLaws::narrow))]
+pub fn function(tokens: &[Token<'_>], from: Reached) -> Result<(FunctionWord, Reached), Stop>
+    ensures { Gives function_of tokens.now from result (grammar.function.read (left tokens.now from)) }
 {
-    let Some(token) = next(tokens, at) else {
+    let Some(token) = next(tokens, from.at) else {
         return Err(Stop::Unexpected(None));
     };
     match function_in(token) {
-        Some(word) => Ok((word, at + 1)),
+        Some(word) => Ok((word, from.past(token, false))),
         None => Err(Stop::Unexpected(Some(token.at))),
     }
 }

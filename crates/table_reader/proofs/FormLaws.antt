@@ -1,12 +1,13 @@
 -- Rows without a fault give a table of the right form.
-use Rattle.std.proofs.Common.{sym, ◌≡◌, ℕ, zero, suc, ◌+◌, ◌<◌, ◌≤◌, List, [], ◌∷◌, Option, Some, None, Bool, true, false, length, refl, arith, nat_lt}
-use Rattle.std.specs.Prelude.{All, T, ℤ, pos, negsuc, is_some, unwrap_or, if◌then◌else◌, int_le, ◌≤ℤ◌}
+use Rattle.std.proofs.Common.{sym, ◌≡◌, ℕ, suc, ◌+◌, ◌<◌, ◌≤◌, List, [], ◌∷◌, Option, Some, None, Bool, true, false, length, refl, arith, nat_lt}
+use Rattle.std.specs.Prelude.{All, ℤ, pos, is_some, unwrap_or, if◌then◌else◌}
 use Rattle.std.specs.List.{AllZip}
 use Rattle.std.specs.Option.{option_and_then}
-use Rattle.std.specs.Int.Signed.{le_z_yes}
-use Rattle.std.proofs.lemmas.Bool.{and_parts, ltb-false}
+use Rattle.std.proofs.lemmas.Bool.{ltb-false}
 use Rattle.std.proofs.lemmas.List.{length-map}
+use Rattle.std.proofs.lemmas.List.Elements.{All-cons}
 use Rattle.base_laws.specs.Firsts.{first_at}
+use Rattle.base_laws.specs.Ranges.{fits_64_bits}
 use Rattle.base_laws.proofs.FirstLaws.{first_at-none, none_left}
 use Rattle.mq_base.specs.declared.schema.AttrInfo.{AttrInfo}
 use Rattle.mq_base.specs.declared.schema.Schema.{Schema}
@@ -19,15 +20,8 @@ use Rattle.mq_base.specs.Value.{IsCell}
 use Rattle.table_reader.specs.Codes.{bad_int, text_too_long, too_many_rows}
 use Rattle.table_reader.specs.Content.{cell_value, column_of, columns_from, content_of}
 use Rattle.table_reader.specs.Faults.{cell_fault, count_fault, field_fault, field_in, length_fault, record_fault, row_fault, rows_fault, type_at, types_of}
-use Rattle.word_forms.specs.Integers.{fits_64_bits, int_of, integer_of, within_64_bits}
+use Rattle.word_forms.specs.Integers.{int_of, integer_of, within_64_bits}
 use Rattle.table_reader.specs.Records.{Fields}
-
-holds : (b : Bool) → b ≡ true → T b
-holds true is = tt
-holds false is = cc
-
-at_most : (low high : ℤ) → int_le low high ≡ true → low ≤ℤ high
-at_most low high is = le_z_yes (holds (int_le low high) is)
 
 -- a test that finds a fault where it holds does not hold where none is found
 not_held : {F : Type 0} (test : Bool) (fault : F) → (if test then Some fault else None) ≡ None → test ≡ false
@@ -41,9 +35,8 @@ held false fault none = cc
 number_fits : (z : ℤ) → is_some (within_64_bits z) ≡ true → IsCell type.Int (value.Int z)
 number_fits z some = by (fits_64_bits z) refl
   where
-    by : (fits : Bool) → fits_64_bits z ≡ fits → IsCell type.Int (value.Int z)
-    by true fits = let both = and_parts (int_le (negsuc 9223372036854775807) z) (int_le z (pos 9223372036854775807)) fits in
-        (at_most (negsuc 9223372036854775807) z both.0, at_most z (pos 9223372036854775807) both.1)
+    by : (fits : Bool) → fits_64_bits z ≡ fits → fits ≡ true
+    by true fits = refl
     by false fits = cc (rw fits at some)
 
 kept_fits : (y z : ℤ) → within_64_bits y ≡ Some z → is_some (within_64_bits z) ≡ true
@@ -76,17 +69,13 @@ record_cells types row fields passes col below =
     field_is_cell (type_at types col) row col (field_in fields col)
     (first_at-none (cell_fault types row fields) 0 (length types) parts.1 col (omega arith) (omega arith))
 
-all_cons : {X : Type 0} (P : X → Type 0) (x : X) (xs : List X) → P x → All P xs → All P (x ∷ xs)
-all_cons P x xs here rest zero d below = here
-all_cons P x xs here rest (suc k) d below = rest k d (omega arith)
-
 -- rows without a fault have cells in the column at each place
 rows_cells : (types : List ValueType) (row : ℕ) (rows : List Fields) → rows_fault types row rows ≡ None
     → (col : ℕ) → col < length types → All (IsCell (type_at types col)) (column_of (type_at types col) col rows)
 rows_cells types row [] passes col below = λ k d past. absurd (omega arith)
 rows_cells types row (fields ∷ rows) passes col below =
     let parts = none_left (row_fault types row fields) (rows_fault types (suc row) rows) passes in
-    all_cons (IsCell (type_at types col)) (cell_value (type_at types col) (field_in fields col)) (column_of (type_at types col) col rows)
+    All-cons (IsCell (type_at types col)) (cell_value (type_at types col) (field_in fields col)) (column_of (type_at types col) col rows)
     (record_cells types row fields parts.0 col below) (rows_cells types (suc row) rows parts.1 col below)
 
 -- rows without a fault, counted from a number within the limit, stay within it

@@ -1,7 +1,8 @@
 -- Each fault of a table's file by itself, and the first of them. docs/FORMATS.md, "Table file", gives their order.
 use Rattle.std.specs.Prelude.{ℕ, suc, ◌==◌, List, [], ◌∷◌, Option, Some, None, Bool, map, length, nat_lt, nat_eq, is_some, slice_index_or, if◌then◌else◌}
+use Rattle.std.specs.Option.{option_or}
 use Rattle.std.specs.Cmp.Lexicographic.{pointwise}
-use Rattle.base_laws.specs.Firsts.{or_else, first_at}
+use Rattle.base_laws.specs.Firsts.{first_at}
 use Rattle.mq_base.specs.declared.schema.AttrInfo.{AttrInfo}
 use Rattle.mq_base.specs.declared.value.ValueType.{ValueType}
 use Rattle.mq_base.specs.declared.value.ValueType.TheVariants as type
@@ -60,18 +61,18 @@ cell_fault types row fields col = field_fault (type_at types col) row col (field
 -- the first fault of a row within the limit: its length, then its fields from the left
 abbrev pub record_fault : List ValueType → ℕ → Fields → Option Refusal
 record_fault types row fields =
-    or_else (length_fault types row fields) (first_at (cell_fault types row fields) 0 (length types))
+    option_or (length_fault types row fields) (first_at (cell_fault types row fields) 0 (length types))
 
 -- the first fault of a row: its number, before anything of it is looked at
 abbrev pub row_fault : List ValueType → ℕ → Fields → Option Refusal
-row_fault types row fields = or_else (count_fault row) (record_fault types row fields)
+row_fault types row fields = option_or (count_fault row) (record_fault types row fields)
 
 -- the first fault of rows, of which the first has this number
 abbrev pub rows_fault : List ValueType → ℕ → List Fields → Option Refusal
 rows_fault types row [] = None
-rows_fault types row (fields ∷ rows) = or_else (row_fault types row fields) (rows_fault types (suc row) rows)
+rows_fault types row (fields ∷ rows) = option_or (row_fault types row fields) (rows_fault types (suc row) rows)
 
 -- the first fault of a table's records: that of the header, then that of the rows, counted from 1
 abbrev pub table_fault : List AttrInfo → List Fields → Option Refusal
 table_fault columns records =
-    or_else (header_fault (names_of columns) records) (rows_fault (types_of columns) 1 (rows_under records))
+    option_or (header_fault (names_of columns) records) (rows_fault (types_of columns) 1 (rows_under records))

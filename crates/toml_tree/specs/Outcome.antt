@@ -5,6 +5,7 @@ use Rattle.std.specs.Option.{ok_or}
 use Rattle.std.specs.Str.{is_utf8}
 use Rattle.toml.specs.Data.{Data, table}
 use Rattle.toml.specs.Parse.{parse_document}
+use Rattle.base_laws.specs.Firsts.{judged}
 use Rattle.mq_base.specs.declared.refusal.Refusal.{Refusal}
 use Rattle.mq_base.specs.Refusal.{refusal}
 use Rattle.toml_tree.specs.declared.error.DocumentNo.{DocumentNo}
@@ -36,14 +37,9 @@ tree_outcome form (Some tree) = ok_or (form tree) shape_refusal
 abbrev pub lists_outcome : {L : Type 0} → (Data → Option L) → List ℕ → Result L Refusal
 lists_outcome form bytes = tree_outcome form (tree_of bytes)
 
--- a value, unless a fault was found
-abbrev pub judged : {X : Type 0} → X → Option Refusal → Result X Refusal
-judged value None = Ok value
-judged value (Some refusal) = Err refusal
-
 -- the value of lists that have the form, or their first fault
 abbrev pub judged_lists : {L X : Type 0} → (L → Option Refusal) → (L → X) → Result L Refusal → Result X Refusal
-judged_lists fault value (Ok lists) = judged (value lists) (fault lists)
+judged_lists fault value (Ok lists) = judged (fault lists) (value lists)
 judged_lists fault value (Err refusal) = Err refusal
 
 -- what a file comes to: it is no document, or has not the form, or its lists have a first fault, or they stand for a value

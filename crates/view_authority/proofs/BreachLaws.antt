@@ -3,8 +3,8 @@ use Rattle.std.proofs.Common.{◌≡◌, ℕ, ◌==◌, Bool, true, false, ◌&&
 use Rattle.std.specs.Prelude.{◌↔◌, if◌then◌else◌}
 use Rattle.std.specs.Int.{trailing_zeros, w64}
 use Rattle.std.specs.List.{list_all}
+use Rattle.std.specs.Option.{option_or}
 use Rattle.std.proofs.lemmas.Bool.{eqb-true}
-use Rattle.base_laws.specs.Firsts.{or_else}
 use Rattle.base_laws.specs.Sets.{has, without, is_within, IsWithin}
 use Rattle.base_laws.proofs.SetLaws.{empty_from_none, has-empty, has-without, test_from_within, within_from_test}
 use Rattle.mq_base.specs.declared.attr_set.AttrSet.{AttrSet}
@@ -67,7 +67,7 @@ set_clear plain sealed set = by_tests (is_within set.0 plain) (is_within set.0 s
     by_tests false true is = refl
     by_tests false false is = is
 
-either_clear : (first rest : Option Breach) → clear (or_else first rest) ≡ (clear first && clear rest)
+either_clear : (first rest : Option Breach) → clear (option_or first rest) ≡ (clear first && clear rest)
 either_clear None rest = refl
 either_clear (Some b) rest = refl
 
@@ -83,7 +83,7 @@ and_assoc false b c = refl
 
 breach_clear : (plain sealed : ℕ) (p : Profile) → clear (breach plain sealed p) ≡ may plain sealed p
 breach_clear plain sealed p =
-    either_clear (plain_breach plain p) (or_else (sealed_breach plain sealed p) (family_breach plain sealed p.equivalent))
+    either_clear (plain_breach plain p) (option_or (sealed_breach plain sealed p) (family_breach plain sealed p.equivalent))
     ∙ ap (λ c. clear (plain_breach plain p) && c) (either_clear (sealed_breach plain sealed p) (family_breach plain sealed p.equivalent))
     ∙ rw (
       rule_clear 1 (bit_or p.visible_plain p.implicit_plain) plain,

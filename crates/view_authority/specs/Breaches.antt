@@ -1,7 +1,8 @@
 -- The first of the three conditions that a profile breaks, and by which attribute. docs/MODEL.md, "Authorised", tells it in prose.
 use Rattle.std.specs.Prelude.{ℕ, ◌==◌, List, map, Option, Some, None, if◌then◌else◌, bit_or}
+use Rattle.std.specs.Option.{option_or}
 use Rattle.std.specs.Int.{trailing_zeros, w64}
-use Rattle.base_laws.specs.Firsts.{first_of, or_else}
+use Rattle.base_laws.specs.Firsts.{first_of}
 use Rattle.base_laws.specs.Sets.{without}
 use Rattle.mq_base.specs.declared.attr_set.AttrSet.{AttrSet}
 use Rattle.relation_profile.specs.Profile.{Profile}
@@ -31,4 +32,4 @@ family_breach plain sealed family = first_of (map (set_breach plain sealed) fami
 -- the first condition that is broken
 abbrev pub breach : ℕ → ℕ → Profile → Option Breach
 breach plain sealed p =
-    or_else (plain_breach plain p) (or_else (sealed_breach plain sealed p) (family_breach plain sealed p.equivalent))
+    option_or (plain_breach plain p) (option_or (sealed_breach plain sealed p) (family_breach plain sealed p.equivalent))

@@ -1,8 +1,9 @@
 -- What a number in a file spells. docs/FORMATS.md, "Table file" and "Query", tell it in prose.
-use Rattle.std.specs.Prelude.{ℕ, ◌==◌, ◌&&◌, List, [], ◌∷◌, Option, Some, None, option_map, ℤ, pos, negsuc, neg_ℤ, int_le, if◌then◌else◌, Bool}
+use Rattle.std.specs.Prelude.{ℕ, ◌==◌, List, [], ◌∷◌, Option, Some, None, option_map, ℤ, pos, neg_ℤ, if◌then◌else◌}
 use Rattle.std.specs.Option.{option_and_then}
 use Rattle.std.specs.Str.{all_ascii_digits}
 use Rattle.std.specs.Str.Parse.{digits_value}
+use Rattle.base_laws.specs.Ranges.{fits_64_bits}
 
 -- the byte '-'
 abbrev pub minus : ℕ
@@ -21,11 +22,7 @@ int_of (first ∷ rest) =
     if first == minus then option_map (λ n. neg_ℤ (pos n)) (natural_of rest)
     else option_map (λ n. pos n) (natural_of (first ∷ rest))
 
--- whether a number is from -2^63 to 2^63 - 1
-abbrev pub fits_64_bits : ℤ → Bool
-fits_64_bits z = int_le (negsuc 9223372036854775807) z && int_le z (pos 9223372036854775807)
-
--- the number itself where it fits
+-- the number itself where it fits in 64 bits
 abbrev pub within_64_bits : ℤ → Option ℤ
 within_64_bits z = if fits_64_bits z then Some z else None
 

@@ -1,5 +1,5 @@
 //! What short texts spell, wherever a file has them: words, the keywords of queries, and integers. It stands on
-//! nothing of ours, and each reader of files stands on it.
+//! general words alone, and each reader of files stands on it.
 #![tactic(auto)]
 
 mod integers;

@@ -3,7 +3,7 @@
 use Rattle.std.specs.Prelude.{◌<◌, All}
 use Rattle.mq_base.specs.declared.plan.PlanOp.{PlanOp}
 use Rattle.mq_base.specs.declared.plan.PlanOp.TheVariants as op
-use Rattle.plan_algebra.specs.Small.{IsSmallAgg}
+use Rattle.mq_base.specs.Small.{IsSmallAgg}
 
 -- the attributes that an operation compares, and those under its functions, are below 64
 abbrev pub IsSmallOp : PlanOp → Type 0

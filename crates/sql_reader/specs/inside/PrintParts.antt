@@ -1,7 +1,7 @@
 -- What the parts of the printing say of their own: the text of a clause, and that numbers are within 64 bits.
 -- docs/FORMATS.md, "Query", tells of both in prose.
 use Rattle.std.specs.Prelude.{◌≡◌, ℕ, true, List, [], ◌∷◌, ◌++◌, All}
-use Rattle.word_forms.specs.Integers.{fits_64_bits}
+use Rattle.base_laws.specs.Ranges.{fits_64_bits}
 use Rattle.sql_reader.specs.Syntax.{Literal, Number, Text, Side, Col, Lit, Condition, Source, Having, Query}
 use Rattle.sql_reader.specs.Spelling.{separated}
 

@@ -8,8 +8,8 @@ use Rattle.cost_model.proofs.costs.cells.Goals as goal
 pub bytes_of-total-requires : goal.bytes_of-total-requires
 bytes_of-total-requires c = c.in-Some.ensures.small
 
-pub single-requires : goal.single-requires
-single-requires c = c.in-Some.ensures.small
+pub of-requires : goal.of-requires
+of-requires c = c.in-Some.ensures.small
 
 pub overflow_add-total : goal.overflow_add-total
 overflow_add-total c =
@@ -21,12 +21,12 @@ overflow_add-total c =
 
 pub loop-a-smaller : goal.loop-a-smaller
 loop-a-smaller c =
-    rw (c.difference-left.ensures, c.single.ensures) (without-lt c.loop-a.left.0 c.in-Some.a.0 c.in-Some.ensures.found.member)
+    rw (c.difference-left.ensures, c.of.ensures) (without-lt c.loop-a.left.0 c.in-Some.a.0 c.in-Some.ensures.found.member)
 
 pub loop-a-preserved : goal.loop-a-preserved
 loop-a-preserved c =
     cells-more (basis_of c.args.base.now) c.args.view.now _ c.loop-a.total c.bytes_of-total.result c.loop-a.left.0 _ c.in-Some.a.0 c.loop-a.invariant
-    c.in-Some.ensures.small c.in-Some.ensures.found (c.difference-left.ensures ∙ ap (without c.loop-a.left.0) c.single.ensures) c.bytes_of-total.ensures
+    c.in-Some.ensures.small c.in-Some.ensures.found (c.difference-left.ensures ∙ ap (without c.loop-a.left.0) c.of.ensures) c.bytes_of-total.ensures
 
 pub returns-clause-same : goal.returns-clause-same
 returns-clause-same c =

@@ -1,6 +1,6 @@
 use Rattle.std.proofs.Common.{◌∙◌, ap}
 use Rattle.key_clusters.specs.Clusters.{least_of, set_of}
-use Rattle.key_clusters.proofs.FillLaws.{filled-end, filled-more}
+use Rattle.base_laws.proofs.FillLaws.{filled-end, filled-more}
 use Rattle.key_clusters.proofs.finding.all_clusters.Goals as goal
 
 pub loop-a-preserved : goal.loop-a-preserved

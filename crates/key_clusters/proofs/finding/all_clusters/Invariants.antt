@@ -1,6 +1,6 @@
 use Rattle.std.proofs.Common.{◌≡◌}
 use Rattle.key_clusters.specs.Clusters.{least_of, set_of}
-use Rattle.key_clusters.proofs.FillLaws.{filled}
+use Rattle.base_laws.proofs.FillLaws.{filled}
 use Rattle.key_clusters.proofs.finding.all_clusters.Given as goal
 
 abbrev pub invariant-loop-a : goal.invariant-loop-a

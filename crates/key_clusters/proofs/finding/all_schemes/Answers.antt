@@ -1,7 +1,7 @@
 use Rattle.std.proofs.Common.{◌∙◌, ap}
 use Rattle.mq_base.specs.declared.table.Scheme.TheVariants.{Rnd}
 use Rattle.key_clusters.specs.Clusters.{ceiling_of, set_of, smaller, wanted}
-use Rattle.key_clusters.proofs.FillLaws.{filled-end, filled-more}
+use Rattle.base_laws.proofs.FillLaws.{filled-end, filled-more}
 use Rattle.key_clusters.proofs.finding.all_schemes.Goals as goal
 
 pub loop-a-preserved : goal.loop-a-preserved

@@ -1,7 +1,7 @@
 use Rattle.std.proofs.Common.{◌≡◌}
 use Rattle.mq_base.specs.declared.table.Scheme.TheVariants.{Rnd}
 use Rattle.key_clusters.specs.Clusters.{ceiling_of, set_of, smaller, wanted}
-use Rattle.key_clusters.proofs.FillLaws.{filled}
+use Rattle.base_laws.proofs.FillLaws.{filled}
 use Rattle.key_clusters.proofs.finding.all_schemes.Given as goal
 
 abbrev pub invariant-loop-a : goal.invariant-loop-a

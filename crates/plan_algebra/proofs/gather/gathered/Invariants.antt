@@ -1,5 +1,5 @@
 use Rattle.std.proofs.Common.{◌≡◌, [], drop}
-use Rattle.plan_algebra.specs.Gathering.{AllStand, facts_after}
+use Rattle.plan_algebra.specs.inside.Gathering.{AllStand, facts_after}
 use Rattle.plan_algebra.proofs.gather.gathered.Given as goal
 
 abbrev pub invariant-loop-node : goal.invariant-loop-node

@@ -1,5 +1,5 @@
 use Rattle.std.proofs.Common.{◌≡◌, drop, map}
-use Rattle.plan_algebra.specs.Building.{over_all}
+use Rattle.plan_algebra.specs.inside.Building.{over_all}
 use Rattle.plan_algebra.specs.Plan.{kept_by}
 use Rattle.plan_algebra.proofs.nodes.push_having.Given as goal
 

@@ -1,6 +1,8 @@
 use Rattle.std.proofs.Common.{◌∙◌, ap, length}
 use Rattle.plan_algebra.proofs.CountLaws.{plan-count, plan-few}
 use Rattle.plan_algebra.proofs.GroupedLaws.{plan-sound}
+use Rattle.plan_algebra.proofs.LeavesLaws.{plan-uses}
+use Rattle.plan_algebra.proofs.LeafTableLaws.{plan-leaves}
 use Rattle.plan_algebra.proofs.MeaningLaws.{plan_means_query}
 use Rattle.plan_algebra.proofs.PlanLaws.{plan-tree}
 use Rattle.plan_algebra.proofs.SmallLaws.{query-small}
@@ -26,4 +28,14 @@ returns-clause-sound c =
 pub returns-clause-means : goal.returns-clause-means
 returns-clause-means c =
     plan_means_query c.args.schema.now c.args.q.now (record { nodes = c.in_ok-nodes.nodes }) c.requires.schema c.requires.bound
+    (c.in_ok-nodes.ensures ∙ plan-tree c.args.schema.now c.args.q.now)
+
+pub returns-clause-used : goal.returns-clause-used
+returns-clause-used c =
+    plan-uses c.args.schema.now c.args.q.now c.requires.schema c.requires.bound c.in_ok-nodes.nodes
+    (c.in_ok-nodes.ensures ∙ plan-tree c.args.schema.now c.args.q.now)
+
+pub returns-clause-leaves : goal.returns-clause-leaves
+returns-clause-leaves c =
+    plan-leaves c.args.schema.now c.args.q.now c.requires.schema c.requires.bound c.in_ok-nodes.nodes
     (c.in_ok-nodes.ensures ∙ plan-tree c.args.schema.now c.args.q.now)

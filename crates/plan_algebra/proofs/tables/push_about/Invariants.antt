@@ -1,5 +1,5 @@
 use Rattle.std.proofs.Common.{◌≡◌, drop}
-use Rattle.plan_algebra.specs.Building.{over_kept}
+use Rattle.plan_algebra.specs.inside.Building.{over_kept}
 use Rattle.plan_algebra.specs.Plan.{is_about}
 use Rattle.plan_algebra.proofs.tables.push_about.Given as goal
 

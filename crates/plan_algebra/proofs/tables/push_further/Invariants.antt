@@ -1,5 +1,5 @@
 use Rattle.std.proofs.Common.{◌≡◌, drop, take}
-use Rattle.plan_algebra.specs.Building.{tables_after}
+use Rattle.plan_algebra.specs.inside.Building.{tables_after}
 use Rattle.plan_algebra.proofs.tables.push_further.Given as goal
 
 abbrev pub invariant-loop-at : goal.invariant-loop-at

@@ -1,6 +1,6 @@
 use Rattle.std.proofs.Common.{◌≡◌, drop}
 use Rattle.mq_base.specs.Nodes.{joins}
-use Rattle.plan_algebra.specs.Building.{over_kept}
+use Rattle.plan_algebra.specs.inside.Building.{over_kept}
 use Rattle.plan_algebra.proofs.tables.push_links.Given as goal
 
 abbrev pub invariant-loop-cond : goal.invariant-loop-cond

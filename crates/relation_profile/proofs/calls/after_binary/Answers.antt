@@ -11,7 +11,7 @@ returns-in-Two-clause-stands c =
     two_answer_stands c.args.schemes.now (node_at c.args.facts.now.plan.nodes c.args.node.0).op (facts_at c.args.facts.now.nodes c.in-Two.x.0)
     (facts_at c.args.facts.now.nodes c.in-Two.y.0) (facts_at c.args.facts.now.nodes c.args.node.0) c.args.left.now c.args.right.now
     c.two.result c.in-Two.ensures.facts.are c.in-Two.ensures.facts.stands views.0 views.1
-    (rw (c.operation.ensures, c.facts_at.ensures, c.facts_at-in-Two.ensures) at c.two.ensures)
+    (rw (c.operation.ensures, c.facts.ensures, c.facts-in-Two.ensures) at c.two.ensures)
     ∙ ap (λ (k : Kind). two_after c.args.facts.now c.args.schemes.now (node_at c.args.facts.now.plan.nodes c.args.node.0).op k c.args.left.now c.args.right.now)
     c.in-Two.ensures.kind
 
@@ -21,4 +21,4 @@ returns-in-Two-clause-within c =
     two_answer_within c.args.schemes.now (node_at c.args.facts.now.plan.nodes c.args.node.0).op (facts_at c.args.facts.now.nodes c.in-Two.x.0)
     (facts_at c.args.facts.now.nodes c.in-Two.y.0) (facts_at c.args.facts.now.nodes c.args.node.0) c.args.left.now c.args.right.now
     c.two.result c.in-Two.ensures.facts.are c.in-Two.ensures.facts.stands views.0 views.1
-    (rw (c.operation.ensures, c.facts_at.ensures, c.facts_at-in-Two.ensures) at c.two.ensures)
+    (rw (c.operation.ensures, c.facts.ensures, c.facts-in-Two.ensures) at c.two.ensures)

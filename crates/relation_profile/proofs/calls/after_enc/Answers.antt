@@ -5,9 +5,9 @@ use Rattle.relation_profile.proofs.calls.after_enc.Goals as goal
 pub returns-clause-stands : goal.returns-clause-stands
 returns-clause-stands c =
     enc_answer_stands c.args.a.0 (facts_at c.args.facts.now.nodes c.args.node.0) c.args.view.now c.enc.result
-    (rw c.facts_at.ensures at c.enc.ensures)
+    (rw c.facts.ensures at c.enc.ensures)
 
 pub returns-clause-within : goal.returns-clause-within
 returns-clause-within c =
     enc_answer_within c.args.a.0 (facts_at c.args.facts.now.nodes c.args.node.0) c.args.view.now c.enc.result
-    c.requires.view (rw c.facts_at.ensures at c.enc.ensures)
+    c.requires.view (rw c.facts.ensures at c.enc.ensures)

@@ -9,7 +9,7 @@ pub returns-in-One-clause-stands : goal.returns-in-One-clause-stands
 returns-in-One-clause-stands c =
     one_answer_stands c.args.schemes.now (node_at c.args.facts.now.plan.nodes c.args.node.0).op (facts_at c.args.facts.now.nodes c.in-One.x.0)
     (facts_at c.args.facts.now.nodes c.args.node.0) c.args.view.now c.one.result c.in-One.ensures.facts.are
-    (rw (c.operation.ensures, c.facts_at.ensures) at c.one.ensures)
+    (rw (c.operation.ensures, c.facts.ensures) at c.one.ensures)
     ∙ ap (λ (k : Kind). one_after c.args.facts.now c.args.schemes.now (node_at c.args.facts.now.plan.nodes c.args.node.0).op k c.args.view.now)
     c.in-One.ensures.kind
 
@@ -18,4 +18,4 @@ returns-in-One-clause-within c =
     one_answer_within c.args.schemes.now (node_at c.args.facts.now.plan.nodes c.args.node.0).op (facts_at c.args.facts.now.nodes c.in-One.x.0)
     (facts_at c.args.facts.now.nodes c.args.node.0) c.args.view.now c.one.result c.in-One.ensures.facts.are
     (subst (λ (k : Kind). IsOneView c.args.facts.now k c.args.view.now) (sym c.in-One.ensures.kind) c.requires.view)
-    (rw (c.operation.ensures, c.facts_at.ensures) at c.one.ensures)
+    (rw (c.operation.ensures, c.facts.ensures) at c.one.ensures)

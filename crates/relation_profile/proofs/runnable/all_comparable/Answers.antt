@@ -13,21 +13,21 @@ is_comparable-requires c = c.in-Some.ensures.small
 pub returns-then-not-is_comparable : goal.returns-then-not-is_comparable
 returns-then-not-is_comparable c =
     sym (c.loop-a.invariant
-    ∙ walk-fail c.args.schemes.now c.args.cmp c.args.seen c.loop-a.left.0 c.in-Some.a.0 c.in-Some.ensures.found c.in-Some.ensures.small
+    ∙ walk-fail c.args.schemes.now c.args.cmp c.args.seen c.loop-a.left.0 c.in-Some.a.0 c.in-Some.ensures.found.member c.in-Some.ensures.small
     (sym c.is_comparable.ensures ∙ c.if-not-is_comparable.true))
 
-pub single-requires : goal.single-requires
-single-requires c = c.in-Some.ensures.small
+pub of-requires : goal.of-requires
+of-requires c = c.in-Some.ensures.small
 
 pub loop-a-smaller : goal.loop-a-smaller
 loop-a-smaller c =
-    rw (c.difference-left-in-Some.ensures, c.single.ensures) (without-lt c.loop-a.left.0 c.in-Some.a.0 c.in-Some.ensures.found)
+    rw (c.difference-left-in-Some.ensures, c.of.ensures) (without-lt c.loop-a.left.0 c.in-Some.a.0 c.in-Some.ensures.found.member)
 
 pub loop-a-preserved : goal.loop-a-preserved
 loop-a-preserved c =
     c.loop-a.invariant
     ∙ walk-more c.args.schemes.now c.args.cmp c.args.seen c.loop-a.left.0 c.in-Some.a.0 _ (sym c.is_comparable.ensures ∙ c.if-not-is_comparable.false)
-    (c.difference-left-in-Some.ensures ∙ ap (without c.loop-a.left.0) c.single.ensures)
+    (c.difference-left-in-Some.ensures ∙ ap (without c.loop-a.left.0) c.of.ensures)
 
 pub returns : goal.returns
 returns c = sym (c.loop-a.invariant ∙ walk-end c.args.schemes.now c.args.cmp c.args.seen c.loop-a.left.0 c.in_default.ensures.found)

@@ -1,6 +1,6 @@
 use Rattle.std.proofs.Common.{replicate}
 use Rattle.key_clusters.specs.Keys.{key_at}
-use Rattle.key_clusters.proofs.FillLaws.{filled-end, filled-more}
+use Rattle.base_laws.proofs.FillLaws.{filled-end, filled-more}
 use Rattle.key_clusters.proofs.keys.Keys.of.Goals as goal
 
 pub loop-a-preserved : goal.loop-a-preserved

@@ -1,6 +1,6 @@
 use Rattle.std.proofs.Common.{◌≡◌, replicate}
 use Rattle.key_clusters.specs.Keys.{key_at}
-use Rattle.key_clusters.proofs.FillLaws.{filled}
+use Rattle.base_laws.proofs.FillLaws.{filled}
 use Rattle.key_clusters.proofs.keys.Keys.of.Given as goal
 
 abbrev pub invariant-loop-a : goal.invariant-loop-a

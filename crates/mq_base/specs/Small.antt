@@ -1,6 +1,5 @@
--- That the ids of a query are below 64, so that they are members of a set of attributes. Only private functions speak of it.
-use Rattle.std.specs.Prelude.{ℕ, ◌<◌, All}
-use Rattle.base_laws.specs.Sets.{with_member}
+-- That the ids of a query are below 64, so that they are members of a set of attributes. docs/FORMATS.md, "Policy file", says the limit.
+use Rattle.std.specs.Prelude.{◌<◌, All}
 use Rattle.mq_base.specs.declared.ids.AttrId.{AttrId}
 use Rattle.mq_base.specs.declared.query.Agg.{Agg}
 use Rattle.mq_base.specs.declared.query.Cond.{Cond}
@@ -9,7 +8,7 @@ use Rattle.mq_base.specs.declared.query.Item.{Item}
 use Rattle.mq_base.specs.declared.query.Item.TheVariants as item
 use Rattle.mq_base.specs.declared.query.Query.{Query}
 
--- an item, a condition, and an attribute under a function
+-- the id of an item is, where it has one; so are those of a condition, and that of an attribute under a function
 abbrev pub IsSmallItem : Item → Type 0
 IsSmallItem (item.Attr a) = a.0 < 64
 IsSmallItem item.Count = Unit {0}
@@ -21,13 +20,8 @@ IsSmallCond (cond.Attrs a op b) = (a.0 < 64) × (b.0 < 64)
 abbrev pub IsSmallAgg : AttrId × Agg → Type 0
 IsSmallAgg p = p.0.0 < 64
 
--- a query
-pub record AreSmall (q : Query) : Type 0 where
+-- so are those of a query
+pub record HasSmallIds (q : Query) : Type 0 where
   pub items : All IsSmallItem q.items
   pub conds : All IsSmallCond q.conds
   pub aggs : All IsSmallAgg q.aggs
-
--- a set with the attribute of an item
-abbrev pub with_item : ℕ → Item → ℕ
-with_item set (item.Attr a) = with_member set a.0
-with_item set item.Count = set

@@ -1,4 +1,4 @@
--- Laws of the sets of a view: what is visible without what is encrypted, when either is cut, joined or moved.
+-- Laws of a set without a part of it, when either is cut, joined, or gets or loses a member.
 use Rattle.std.proofs.Common.{◌≡◌, ℕ, ◌^◌, Bool, true, false, ◌||◌, ◌&&◌, not, bit_and, bit_or, refl, sym, ◌∙◌, ap}
 use Rattle.std.proofs.lemmas.Bool.{eqb-true}
 use Rattle.base_laws.specs.Sets.{has, with_member, without, IsWithin}
@@ -17,7 +17,7 @@ without-cut v e k = same_members _ _ (λ i.
     law true false false = refl
     law false e k = refl
 
--- of what is visible, cut to what is kept of it
+-- a part of a set, cut to what is kept of the set
 pub cut-kept : (v e k : ℕ) → IsWithin e v → bit_and e (bit_and v k) ≡ bit_and e k
 cut-kept v e k within = same_members _ _ (λ i.
     rw (has-bit_and e (bit_and v k) i, has-bit_and v k i, has-bit_and e k i) (law (has e i) (has v i) (has k i) (within.member i)))
@@ -37,7 +37,7 @@ within-cut v e k within = record {
     law true v k inside both = rw (inside refl) both
     law false v k inside both = cc
 
--- the parts of two tables that share nothing
+-- parts of two sets that share nothing
 pub without-both : (v w e f : ℕ) → bit_and v w ≡ 0 → IsWithin e v → IsWithin f w
     → without (bit_or v w) (bit_or e f) ≡ bit_or (without v e) (without w f)
 without-both v w e f apart left right = same_members _ _ (λ i.
@@ -67,7 +67,7 @@ within-both v w e f left right = record {
     law false w false true left right either = right refl
     law false w false false left right either = cc
 
--- one member more is encrypted
+-- the part has one member more
 pub without-more : (v e a : ℕ) → without v (bit_or e (2 ^ a)) ≡ without (without v e) (2 ^ a)
 without-more v e a = same_members _ _ (λ i.
     rw (has-without v (bit_or e (2 ^ a)) i, has-bit_or e (2 ^ a) i, has-without (without v e) (2 ^ a) i, has-without v e i)
@@ -82,7 +82,7 @@ without-more v e a = same_members _ _ (λ i.
 single_in : (s a : ℕ) → has s a ≡ true → (i : ℕ) → has (2 ^ a) i ≡ true → has s i ≡ true
 single_in s a inside i there = rw (sym (eqb-true a i (sym (has-single a i) ∙ there))) inside
 
--- one of the visible ones
+-- which is one of the set that was none of the part
 pub within-more : (v e a : ℕ) → IsWithin e v → has (without v e) a ≡ true → IsWithin (bit_or e (2 ^ a)) v
 within-more v e a within plain = record {
   member = λ i inside.
@@ -98,7 +98,7 @@ within-more v e a within plain = record {
     law v true c encrypted new either = encrypted refl
     law v false c encrypted new either = new either
 
--- one encrypted member fewer is visible in plaintext
+-- the part has one member fewer
 pub without-less : (v e a : ℕ) → IsWithin e v → has e a ≡ true → without v (without e (2 ^ a)) ≡ with_member (without v e) a
 without-less v e a within sealed = same_members _ _ (λ i.
     rw (has-without v (without e (2 ^ a)) i, has-without e (2 ^ a) i, has-bit_or (without v e) (2 ^ a) i, has-without v e i)
@@ -122,7 +122,7 @@ within-less v e a within = record {
     law v true c within both = within refl
     law v false c within both = cc
 
--- without what it has in common with another
+-- a set without what it has in common with another one
 pub without-common : (v e : ℕ) → without v (bit_and v e) ≡ without v e
 without-common v e = same_members _ _ (λ i.
     rw (has-without v (bit_and v e) i, has-bit_and v e i, has-without v e i) (law (has v i) (has e i)))

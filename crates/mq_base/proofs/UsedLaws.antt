@@ -2,6 +2,7 @@
 use Rattle.std.proofs.Common.{◌≡◌, ℕ, ◌+◌, ◌<◌, ◌≤◌, List, ◌∷◌, length, get_or, drop, refl}
 use Rattle.std.specs.Prelude.{filter_map}
 use Rattle.std.specs.List.{flat_map}
+use Rattle.std.specs.Option.{option_map_or}
 use Rattle.std.proofs.lemmas.List.{drop_more, drop_all}
 use Rattle.base_laws.specs.Sets.{with_member, with_members}
 use Rattle.mq_base.specs.declared.ids.AttrId.{AttrId}
@@ -11,17 +12,16 @@ use Rattle.mq_base.specs.declared.query.Cond.TheVariants as cond
 use Rattle.mq_base.specs.declared.query.Item.{Item}
 use Rattle.mq_base.specs.declared.query.Item.TheVariants as item
 use Rattle.mq_base.specs.Nodes.{aggregated, cond_attributes, item_attribute}
-use Rattle.plan_algebra.specs.Small.{with_item}
 
 -- past an item, a condition, and an attribute under a function
 item_more : (i : Item) (set : ℕ) (rest : List Item)
-    → with_members set (filter_map item_attribute (i ∷ rest)) ≡ with_members (with_item set i) (filter_map item_attribute rest)
+    → with_members set (filter_map item_attribute (i ∷ rest)) ≡ with_members (option_map_or (with_member set) (item_attribute i) set) (filter_map item_attribute rest)
 item_more (item.Attr a) set rest = refl
 item_more item.Count set rest = refl
 
 pub items-more : (set : ℕ) (items : List Item) (i : ℕ) (d : Item) → i < length items
     → with_members set (filter_map item_attribute (drop i items))
-    ≡ with_members (with_item set (get_or items i d)) (filter_map item_attribute (drop (i + 1) items))
+    ≡ with_members (option_map_or (with_member set) (item_attribute (get_or items i d)) set) (filter_map item_attribute (drop (i + 1) items))
 items-more set items i d below = rw (drop_more items i d below) (item_more (get_or items i d) set (drop (i + 1) items))
 
 pub items-end : (set : ℕ) (items : List Item) (i : ℕ) → length items ≤ i

@@ -2,7 +2,7 @@ use Rattle.std.proofs.Common.{◌≡◌, drop}
 use Rattle.std.specs.List.{flat_map}
 use Rattle.base_laws.specs.Sets.{with_members}
 use Rattle.mq_base.specs.Nodes.{cond_attributes}
-use Rattle.plan_algebra.proofs.used.with_conditions.Given as goal
+use Rattle.mq_base.proofs.used.with_conditions.Given as goal
 
 abbrev pub invariant-loop-cond : goal.invariant-loop-cond
 invariant-loop-cond l =

@@ -81,11 +81,9 @@ sum-least f s a t small least is = rw (members-least s a small least, is) (sum_b
 pub sum-none : (f : ℕ → ℕ) (s : ℕ) → s ≡ 0 → sum_by f (members s) ≡ 0
 sum-none f s none = rw (none, members-empty) refl
 
-sum_bound : (f : ℕ → ℕ) (most : ℕ) → ((a : ℕ) → f a ≤ most) → (xs : List ℕ) → sum_by f xs ≤ length xs * most
+-- a sum is at most as many times what each gives at most
+pub sum_bound : (f : ℕ → ℕ) (most : ℕ) → ((a : ℕ) → f a ≤ most) → (xs : List ℕ) → sum_by f xs ≤ length xs * most
 sum_bound f most bound [] = omega arith
 sum_bound f most bound (x ∷ xs) =
     rw (sum_by-cons f x xs)
     (grind (arith, bound x, sum_bound f most bound xs))
-
-pub sum-few : (f : ℕ → ℕ) → ((a : ℕ) → f a ≤ 240) → (s : ℕ) → sum_by f (members s) ≤ 15360
-sum-few f bound s = omega (arith, sum_bound f 240 bound (members s), members-few s)

@@ -2,7 +2,7 @@ use Rattle.std.proofs.Common.{◌≡◌, drop}
 use Rattle.std.specs.Prelude.{filter_map}
 use Rattle.base_laws.specs.Sets.{with_members}
 use Rattle.mq_base.specs.Nodes.{item_attribute}
-use Rattle.plan_algebra.proofs.used.with_items.Given as goal
+use Rattle.mq_base.proofs.used.with_items.Given as goal
 
 abbrev pub invariant-loop-item : goal.invariant-loop-item
 invariant-loop-item l =

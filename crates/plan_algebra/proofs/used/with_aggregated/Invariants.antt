@@ -1,7 +1,0 @@
-use Rattle.std.proofs.Common.{◌≡◌, drop}
-use Rattle.base_laws.specs.Sets.{with_members}
-use Rattle.mq_base.specs.Nodes.{aggregated}
-use Rattle.plan_algebra.proofs.used.with_aggregated.Given as goal
-
-abbrev pub invariant-loop-a : goal.invariant-loop-a
-invariant-loop-a l = with_members l.fn.from.0 (aggregated l.aggs) ≡ with_members l.set.0 (aggregated (drop l.a-index l.aggs))

@@ -1,0 +1,3 @@
+-- What only private functions of this crate answer; the promises name none of it.
+pub mod Building
+pub mod Gathering
