@@ -12,7 +12,7 @@ use Rattle.planner_cli.specs.declared.load_no.LoadNo.TheVariants.{Refused, Faile
 use Rattle.planner_cli.specs.declared.status.FileRole.{FileRole}
 use Rattle.planner_cli.specs.declared.status.InputFault.{InputFault}
 use Rattle.planner_cli.specs.Files.{Lookup}
-use Rattle.planner_cli.specs.Input.{Stop, absent, refused, most, fault_of, judged, within, opened}
+use Rattle.planner_cli.specs.Input.{Stop, absent, refused, most, fault_of, judged, within, opened, and_then}
 use Rattle.planner_cli.specs.inside.Loading.{Seen, Gives, AreHeld, Knows, Loads, StopsReading, Judges}
 
 abbrev role_of : Seen → FileRole
@@ -170,6 +170,45 @@ loads_after before middle after files more P part whole (Failed file) next follo
       (Knows-before before middle loads.read (λ lookup. lookup file loads.name ≡ None → part lookup ≡ Err (absent file loads.name)) follows loads.knows);
 }
 loads_after before middle after files more P part whole NoMemory next follows then known loads = tt
+
+-- what comes after a part that is accepted
+abbrev pub chained : {X Y : Type 0} → (Lookup → Result X Stop) → (X → Lookup → Result Y Stop) → Lookup → Result Y Stop
+chained part rest lookup = and_then (part lookup) (λ x. rest x lookup)
+
+-- a part was accepted: what the rest comes to, or where it stops, is so of both together
+pub loads_then : {X Y : Type 0} (before middle after : ShelfState) (files more : List FileRole) (part : Lookup → Result X Stop) (x : X)
+    (rest : X → Lookup → Result Y Stop) (answer : Result Y LoadNo) → Follows before middle → Follows middle after
+    → Knows before.held files (λ lookup. part lookup ≡ Ok x) → Loads middle after more (rest x) answer
+    → Loads before after (files ++ more) (chained part rest) answer
+loads_then before middle after files more part x rest (Ok y) follows then known loads =
+    Knows-then before.held files more (λ lookup. part lookup ≡ Ok x) (λ lookup. rest x lookup ≡ Ok y) (λ lookup. chained part rest lookup ≡ Ok y)
+    (λ lookup reads comes. ap (λ o. and_then o (λ x. rest x lookup)) reads ∙ comes) known
+    (Knows-before before middle more (λ lookup. rest x lookup ≡ Ok y) follows loads)
+loads_then before middle after files more part x rest (Err error) follows then known loads =
+    loads_after before middle after files more (λ lookup. part lookup ≡ Ok x) (rest x) (chained part rest) error
+    (λ lookup stop reads stops. ap (λ o. and_then o (λ x. rest x lookup)) reads ∙ stops) follows then known loads
+
+same_state : (state : ShelfState) → Follows state state
+same_state state = record { held = refl; steady = refl; rising = omega arith }
+
+-- a part stopped: so it stops what comes after it
+pub loads_stopped : {X Y : Type 0} (before after : ShelfState) (files : List FileRole) (part : Lookup → Result X Stop)
+    (rest : X → Lookup → Result Y Stop) (error : LoadNo) → Follows before after → Loads before after files part (Err error)
+    → Loads before after files (chained part rest) (Err error)
+loads_stopped before after files part rest error follows loads =
+    loads_after before before after [] files (λ lookup. Unit {0}) part (chained part rest) error
+    (λ lookup stop none stops. ap (λ o. and_then o (λ x. rest x lookup)) stops) (same_state before) follows
+    (Knows-none before.held (λ lookup. Unit {0}) (λ lookup. tt)) loads
+
+-- the last part was accepted: so the whole is
+pub loads_last : {X Y : Type 0} (held : Option Files) (files : List FileRole) (part : Lookup → Result X Stop) (x : X) (made : X → Y)
+    → Knows held files (λ lookup. part lookup ≡ Ok x) → Knows held files (λ lookup. chained part (λ x lookup. Ok (made x)) lookup ≡ Ok (made x))
+loads_last held files part x made known = record {
+  seen = known.seen;
+  roles = known.roles;
+  are_held = known.are_held;
+  always = λ lookup gives. ap (λ o. and_then o (λ x. Ok (made x))) (known.always lookup gives);
+}
 
 -- the reading stopped, and more files were to come
 pub loads_cut : {X : Type 0} (before after : ShelfState) (files more : List FileRole) (expected : Lookup → Result X Stop) (error : LoadNo)

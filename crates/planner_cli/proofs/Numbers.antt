@@ -4,6 +4,10 @@ use Rattle.policy_reader.specs.declared.refusal.PolicyCode.{PolicyCode}
 use Rattle.policy_reader.specs.declared.refusal.PolicyCode.TheVariants as policy_codes
 use Rattle.policy_reader.specs.declared.refusal.PolicyNo.TheVariants as policy_no
 use Rattle.policy_reader.specs.Codes as policy
+use Rattle.price_reader.specs.declared.refusal.PriceCode.{PriceCode}
+use Rattle.price_reader.specs.declared.refusal.PriceCode.TheVariants as price_codes
+use Rattle.price_reader.specs.declared.refusal.PriceNo.TheVariants as price_no
+use Rattle.price_reader.specs.Codes as price
 use Rattle.query_bind.specs.declared.refusal.BindCode.{BindCode}
 use Rattle.query_bind.specs.declared.refusal.BindCode.TheVariants as bind_codes
 use Rattle.query_bind.specs.declared.refusal.BindNo.TheVariants as bind_no
@@ -31,6 +35,18 @@ policy_code policy_codes.TooMany = omega arith
 pub policy_numbered : AreNumbered policy.told
 policy_numbered (policy_no.Refused code at item) = policy_code code
 policy_numbered policy_no.NoMemory = tt
+
+price_code : (code : PriceCode) → 1 ≤ price.number_of code
+price_code price_codes.Syntax = omega arith
+price_code price_codes.Shape = omega arith
+price_code price_codes.UnknownName = omega arith
+price_code price_codes.OutOfRange = omega arith
+price_code price_codes.Missing = omega arith
+price_code price_codes.BadLink = omega arith
+
+pub price_numbered : AreNumbered price.told
+price_numbered (price_no.Refused code at item) = price_code code
+price_numbered price_no.NoMemory = tt
 
 pub query_numbered : AreNumbered sql.query_refusal
 query_numbered sql_no.NoMemory = tt

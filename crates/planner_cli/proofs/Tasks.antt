@@ -1,5 +1,5 @@
 -- The files of a command, one after the other.
-use Rattle.std.proofs.Common.{◌≡◌, ◌≢◌, ℕ, ◌+◌, ◌<◌, List, [], ◌∷◌, map, Ok, Err, refl, ap, arith}
+use Rattle.std.proofs.Common.{◌≡◌, ◌≢◌, ℕ, ◌+◌, ◌<◌, List, [], ◌∷◌, map, Result, Ok, Err, arith}
 use Rattle.std.specs.Prelude.{All}
 use Rattle.std.proofs.lemmas.List.Elements.{All-nil, All-cons, All-head, All-tail}
 use Rattle.mq_base.specs.BoundQuery.{AreDistinct}
@@ -9,41 +9,17 @@ use Rattle.mq_base.specs.declared.table.PlainTable.{PlainTable}
 use Rattle.outside_io.specs.Outside.{ShelfState, Follows}
 use Rattle.outside_io.proofs.Following.{Follows-trans}
 use Rattle.policy_reader.specs.declared.policy.Policy.{Policy}
+use Rattle.price_reader.specs.declared.prices.Prices.{Prices}
 use Rattle.planner_cli.specs.declared.load_no.LoadNo.{LoadNo}
 use Rattle.planner_cli.specs.declared.status.FileRole.{FileRole}
 use Rattle.planner_cli.specs.declared.status.FileRole.TheVariants as role
 use Rattle.planner_cli.specs.declared.task.RunTask.{RunTask}
 use Rattle.planner_cli.specs.declared.task.Task.TheVariants as task
 use Rattle.planner_cli.specs.Files.{Lookup, role_number}
-use Rattle.planner_cli.specs.Input.{Stop, and_then, policy_input, query_input, tables_input, run_task, task_of}
+use Rattle.planner_cli.specs.Input.{Stop, policy_input, prices_input, query_input, tables_input, run_task, task_of}
 use Rattle.planner_cli.specs.inside.Loading.{AreApart, Knows, Loads, Loaded}
 use Rattle.planner_cli.specs.Words.{RunCommand, run}
-use Rattle.planner_cli.proofs.Knowing.{Knows-none, Knows-then, Knows-before, loads_after}
-
--- where a command stops, it stops at the first of its files that does
-run_first : (command : RunCommand) (lookup : Lookup) (stop : Stop) → policy_input command.policy lookup ≡ Err stop → run_task command lookup ≡ Err stop
-unfolding run_task
-run_first command lookup stop first = rw first refl
-
-run_second : (command : RunCommand) (p : Policy) (lookup : Lookup) (stop : Stop) → policy_input command.policy lookup ≡ Ok p
-    → query_input p command.query lookup ≡ Err stop → run_task command lookup ≡ Err stop
-unfolding run_task
-run_second command p lookup stop first second = rw (first, second) refl
-
-run_third : (command : RunCommand) (p : Policy) (q : Query) (lookup : Lookup) (stop : Stop)
-    → (policy_input command.policy lookup ≡ Ok p) × (query_input p command.query lookup ≡ Ok q)
-    → tables_input p q.tables lookup ≡ Err stop → run_task command lookup ≡ Err stop
-unfolding run_task
-run_third command p q lookup stop before third = rw (before.0, before.1, third) refl
-
-abbrev with_files : RunCommand → Policy → Query → List PlainTable → RunTask
-with_files command p q tables = record { policy = p; query = q; tables = tables; seed = command.seed; schedule = command.schedule }
-
-run_all : (command : RunCommand) (p : Policy) (q : Query) (tables : List PlainTable) (lookup : Lookup)
-    → (policy_input command.policy lookup ≡ Ok p) × (query_input p command.query lookup ≡ Ok q)
-    → tables_input p q.tables lookup ≡ Ok tables → run_task command lookup ≡ Ok (with_files command p q tables)
-unfolding run_task
-run_all command p q tables lookup before third = rw (before.0, before.1, third) refl
+use Rattle.planner_cli.proofs.Knowing.{chained, loads_then, loads_stopped, loads_last}
 
 abbrev of_table : TableId → FileRole
 of_table t = role.Table t
@@ -66,82 +42,138 @@ below_tables n below [] = All-nil (λ y. n ≢ y)
 below_tables n below (t ∷ ts) =
     All-cons (λ y. n ≢ y) (t.0 + 4) (map role_number (map of_table ts)) (λ same. omega arith) (below_tables n below ts)
 
-roles_apart : (ts : List TableId) → AreDistinct (map (λ (t : TableId). t.0) ts) → AreApart (role.Policy ∷ role.Query ∷ map of_table ts)
-roles_apart ts apart = (
-  All-cons (λ y. 0 ≢ y) 2 (map role_number (map of_table ts)) (λ same. omega arith) (below_tables 0 (omega arith) ts),
-  (below_tables 2 (omega arith) ts, tables_apart ts apart),
+-- the roles of a command `run`
+abbrev run_files : List TableId → List FileRole
+run_files ts = role.Policy ∷ role.Prices ∷ role.Query ∷ map of_table ts
+
+all_apart : (ts : List TableId) → AreDistinct (map (λ (t : TableId). t.0) ts) → AreApart (run_files ts)
+all_apart ts apart = (
+  All-cons (λ y. 0 ≢ y) 1 (2 ∷ map role_number (map of_table ts)) (λ same. omega arith)
+      (All-cons (λ y. 0 ≢ y) 2 (map role_number (map of_table ts)) (λ same. omega arith) (below_tables 0 (omega arith) ts)),
+  (
+    All-cons (λ y. 1 ≢ y) 2 (map role_number (map of_table ts)) (λ same. omega arith) (below_tables 1 (omega arith) ts),
+    (below_tables 2 (omega arith) ts, tables_apart ts apart),
+  ),
 )
 
-same_state : (state : ShelfState) → Follows state state
-same_state state = record { held = refl; steady = refl; rising = omega arith }
+first_apart : AreApart (role.Policy ∷ [])
+first_apart = (All-nil (λ y. 0 ≢ y), tt)
+
+second_apart : AreApart (role.Policy ∷ role.Prices ∷ [])
+second_apart = (All-cons (λ y. 0 ≢ y) 1 [] (λ same. omega arith) (All-nil (λ y. 0 ≢ y)), (All-nil (λ y. 1 ≢ y), tt))
+
+-- what comes after the policy, the prices and the query
+abbrev with_files : RunCommand → Policy → Prices → Query → List PlainTable → RunTask
+with_files command p prices q tables =
+    record { policy = p; prices = prices; query = q; tables = tables; seed = command.seed; schedule = command.schedule }
+
+abbrev after_query : RunCommand → Policy → Prices → Query → Lookup → Result RunTask Stop
+after_query command p prices q = chained (tables_input p q.tables) (λ tables lookup. Ok (with_files command p prices q tables))
+
+abbrev after_prices : RunCommand → Policy → Prices → Lookup → Result RunTask Stop
+after_prices command p prices = chained (query_input p command.query) (after_query command p prices)
+
+abbrev after_policy : RunCommand → Policy → Lookup → Result RunTask Stop
+after_policy command p = chained (prices_input p command.prices) (after_prices command p)
+
+-- the policy was accepted, and the prices, and the query
+policy_then : (command : RunCommand) (before middle after : ShelfState) (p : Policy) (more : List FileRole) (answer : Result RunTask LoadNo)
+    → Follows before middle → Follows middle after → Knows before.held (role.Policy ∷ []) (λ lookup. policy_input command.policy lookup ≡ Ok p)
+    → Loads middle after more (after_policy command p) answer → Loads before after (role.Policy ∷ more) (run_task command) answer
+unfolding run_task
+policy_then command before middle after p more answer follows then known loads =
+    loads_then before middle after (role.Policy ∷ []) more (policy_input command.policy) p (after_policy command) answer follows then known loads
+
+prices_then : (command : RunCommand) (before middle after : ShelfState) (p : Policy) (prices : Prices) (more : List FileRole) (answer : Result RunTask LoadNo)
+    → Follows before middle → Follows middle after → Knows before.held (role.Prices ∷ []) (λ lookup. prices_input p command.prices lookup ≡ Ok prices)
+    → Loads middle after more (after_prices command p prices) answer → Loads before after (role.Prices ∷ more) (after_policy command p) answer
+prices_then command before middle after p prices more answer follows then known loads =
+    loads_then before middle after (role.Prices ∷ []) more (prices_input p command.prices) prices (after_prices command p) answer follows then known loads
+
+query_then : (command : RunCommand) (before middle after : ShelfState) (p : Policy) (prices : Prices) (q : Query) (more : List FileRole)
+    (answer : Result RunTask LoadNo) → Follows before middle → Follows middle after
+    → Knows before.held (role.Query ∷ []) (λ lookup. query_input p command.query lookup ≡ Ok q)
+    → Loads middle after more (after_query command p prices q) answer → Loads before after (role.Query ∷ more) (after_prices command p prices) answer
+query_then command before middle after p prices q more answer follows then known loads =
+    loads_then before middle after (role.Query ∷ []) more (query_input p command.query) q (after_query command p prices) answer follows then known loads
 
 -- the policy stopped the command
 pub loaded_first : (command : RunCommand) (before after : ShelfState) (error : LoadNo) → Follows before after
     → Loads {X = Policy} before after (role.Policy ∷ []) (policy_input command.policy) (Err error)
     → Loaded {X = RunTask} before after (run_task command) (Err error)
+unfolding run_task
 loaded_first command before after error follows loads = record {
   files = role.Policy ∷ [];
-  apart = (All-nil (λ y. 0 ≢ y), tt);
-  loads = loads_after before before after [] (role.Policy ∷ []) (λ lookup. Unit {0}) (policy_input command.policy) (run_task command) error
-      (λ lookup stop none stops. run_first command lookup stop stops) (same_state before) follows (Knows-none before.held (λ lookup. Unit {0}) (λ lookup. tt)) loads;
+  apart = first_apart;
+  loads = loads_stopped before after (role.Policy ∷ []) (policy_input command.policy) (after_policy command) error follows loads;
 }
 
--- the query did
+-- the prices did
 pub loaded_second : (command : RunCommand) (before middle after : ShelfState) (p : Policy) (error : LoadNo)
     → Follows before middle → Follows middle after
     → Knows before.held (role.Policy ∷ []) (λ lookup. policy_input command.policy lookup ≡ Ok p)
-    → Loads {X = Query} middle after (role.Query ∷ []) (query_input p command.query) (Err error)
+    → Loads {X = Prices} middle after (role.Prices ∷ []) (prices_input p command.prices) (Err error)
     → Loaded {X = RunTask} before after (run_task command) (Err error)
 loaded_second command before middle after p error follows then known loads = record {
-  files = role.Policy ∷ role.Query ∷ [];
-  apart = (All-cons (λ y. 0 ≢ y) 2 [] (λ same. omega arith) (All-nil (λ y. 0 ≢ y)), (All-nil (λ y. 2 ≢ y), tt));
-  loads = loads_after before middle after (role.Policy ∷ []) (role.Query ∷ []) (λ lookup. policy_input command.policy lookup ≡ Ok p)
-      (query_input p command.query) (run_task command) error (λ lookup stop first stops. run_second command p lookup stop first stops)
-      follows then known loads;
+  files = role.Policy ∷ role.Prices ∷ [];
+  apart = second_apart;
+  loads = policy_then command before middle after p (role.Prices ∷ []) (Err error) follows then known
+      (loads_stopped middle after (role.Prices ∷ []) (prices_input p command.prices) (after_prices command p) error then loads);
 }
 
--- the policy and the query are known
-both_known : (command : RunCommand) (before middle : ShelfState) (p : Policy) (q : Query) → Follows before middle
+-- both were accepted
+both_then : (command : RunCommand) (before middle later after : ShelfState) (p : Policy) (prices : Prices) (more : List FileRole)
+    (answer : Result RunTask LoadNo) → Follows before middle → Follows middle later → Follows later after
     → Knows before.held (role.Policy ∷ []) (λ lookup. policy_input command.policy lookup ≡ Ok p)
-    → Knows middle.held (role.Query ∷ []) (λ lookup. query_input p command.query lookup ≡ Ok q)
-    → Knows before.held (role.Policy ∷ role.Query ∷ []) (λ lookup. (policy_input command.policy lookup ≡ Ok p) × (query_input p command.query lookup ≡ Ok q))
-both_known command before middle p q follows first second =
-    Knows-then before.held (role.Policy ∷ []) (role.Query ∷ []) (λ lookup. policy_input command.policy lookup ≡ Ok p)
-    (λ lookup. query_input p command.query lookup ≡ Ok q) (λ lookup. (policy_input command.policy lookup ≡ Ok p) × (query_input p command.query lookup ≡ Ok q))
-    (λ lookup one two. (one, two)) first (Knows-before before middle (role.Query ∷ []) (λ lookup. query_input p command.query lookup ≡ Ok q) follows second)
+    → Knows middle.held (role.Prices ∷ []) (λ lookup. prices_input p command.prices lookup ≡ Ok prices)
+    → Loads later after more (after_prices command p prices) answer → Loads before after (role.Policy ∷ role.Prices ∷ more) (run_task command) answer
+both_then command before middle later after p prices more answer follows then next first second loads =
+    policy_then command before middle after p (role.Prices ∷ more) answer follows (Follows-trans then next) first
+    (prices_then command middle later after p prices more answer then next second loads)
 
--- a table did
-pub loaded_third : (command : RunCommand) (before middle later after : ShelfState) (p : Policy) (q : Query) (error : LoadNo)
-    → Follows before middle → Follows middle later → Follows later after → AreDistinct (map (λ (t : TableId). t.0) q.tables)
+-- the query stopped the command
+pub loaded_third : (command : RunCommand) (before middle later after : ShelfState) (p : Policy) (prices : Prices) (error : LoadNo)
+    → Follows before middle → Follows middle later → Follows later after
     → Knows before.held (role.Policy ∷ []) (λ lookup. policy_input command.policy lookup ≡ Ok p)
-    → Knows middle.held (role.Query ∷ []) (λ lookup. query_input p command.query lookup ≡ Ok q)
-    → Loads {X = List PlainTable} later after (map (λ t. role.Table t) q.tables) (tables_input p q.tables) (Err error)
+    → Knows middle.held (role.Prices ∷ []) (λ lookup. prices_input p command.prices lookup ≡ Ok prices)
+    → Loads {X = Query} later after (role.Query ∷ []) (query_input p command.query) (Err error)
     → Loaded {X = RunTask} before after (run_task command) (Err error)
-loaded_third command before middle later after p q error follows then next once first second loads = record {
-  files = role.Policy ∷ role.Query ∷ map of_table q.tables;
-  apart = roles_apart q.tables once;
-  loads = loads_after before later after (role.Policy ∷ role.Query ∷ []) (map of_table q.tables)
-      (λ lookup. (policy_input command.policy lookup ≡ Ok p) × (query_input p command.query lookup ≡ Ok q))
-      (tables_input p q.tables) (run_task command) error (λ lookup stop read stops. run_third command p q lookup stop read stops)
-      (Follows-trans follows then) next (both_known command before middle p q follows first second) loads;
+loaded_third command before middle later after p prices error follows then next first second loads = record {
+  files = run_files [];
+  apart = all_apart [] tt;
+  loads = both_then command before middle later after p prices (role.Query ∷ []) (Err error) follows then next first second
+      (loads_stopped later after (role.Query ∷ []) (query_input p command.query) (after_query command p prices) error next loads);
 }
 
--- no file did
-pub loaded_all : (command : RunCommand) (before middle later after : ShelfState) (p : Policy) (q : Query) (tables : List PlainTable)
-    → Follows before middle → Follows middle later → AreDistinct (map (λ (t : TableId). t.0) q.tables)
+-- the policy, the prices and the query were accepted, and what the tables come to decides
+pub loaded_after : (command : RunCommand) (before middle later last after : ShelfState) (p : Policy) (prices : Prices) (q : Query)
+    (answer : Result RunTask LoadNo)
+    → Follows before middle → Follows middle later → Follows later last → Follows last after → AreDistinct (map (λ (t : TableId). t.0) q.tables)
     → Knows before.held (role.Policy ∷ []) (λ lookup. policy_input command.policy lookup ≡ Ok p)
-    → Knows middle.held (role.Query ∷ []) (λ lookup. query_input p command.query lookup ≡ Ok q)
-    → Knows later.held (map (λ t. role.Table t) q.tables) (λ lookup. tables_input p q.tables lookup ≡ Ok tables)
-    → Loaded {X = RunTask} before after (run_task command) (Ok (with_files command p q tables))
-loaded_all command before middle later after p q tables follows then once first second third = record {
-  files = role.Policy ∷ role.Query ∷ map of_table q.tables;
-  apart = roles_apart q.tables once;
-  loads = Knows-then before.held (role.Policy ∷ role.Query ∷ []) (map of_table q.tables)
-      (λ lookup. (policy_input command.policy lookup ≡ Ok p) × (query_input p command.query lookup ≡ Ok q))
-      (λ lookup. tables_input p q.tables lookup ≡ Ok tables) (λ lookup. run_task command lookup ≡ Ok (with_files command p q tables))
-      (λ lookup read more. run_all command p q tables lookup read more) (both_known command before middle p q follows first second)
-      (Knows-before before later (map of_table q.tables) (λ lookup. tables_input p q.tables lookup ≡ Ok tables) (Follows-trans follows then) third);
+    → Knows middle.held (role.Prices ∷ []) (λ lookup. prices_input p command.prices lookup ≡ Ok prices)
+    → Knows later.held (role.Query ∷ []) (λ lookup. query_input p command.query lookup ≡ Ok q)
+    → Loads last after (map of_table q.tables) (after_query command p prices q) answer
+    → Loaded before after (run_task command) answer
+loaded_after command before middle later last after p prices q answer follows then next more once first second third loads = record {
+  files = run_files q.tables;
+  apart = all_apart q.tables once;
+  loads = both_then command before middle later after p prices (role.Query ∷ map of_table q.tables) answer
+      follows then (Follows-trans next more) first second
+      (query_then command later last after p prices q (map of_table q.tables) answer next more third loads);
 }
+
+-- a table stops what comes after the query, and where none does the task is whole
+pub tables_stop : (command : RunCommand) (before after : ShelfState) (p : Policy) (prices : Prices) (q : Query) (error : LoadNo)
+    → Follows before after → Loads {X = List PlainTable} before after (map (λ t. role.Table t) q.tables) (tables_input p q.tables) (Err error)
+    → Loads {X = RunTask} before after (map of_table q.tables) (after_query command p prices q) (Err error)
+tables_stop command before after p prices q error follows loads =
+    loads_stopped before after (map of_table q.tables) (tables_input p q.tables) (λ tables lookup. Ok (with_files command p prices q tables)) error follows loads
+
+pub tables_all : (command : RunCommand) (before after : ShelfState) (p : Policy) (prices : Prices) (q : Query) (tables : List PlainTable)
+    → Loads before after (map (λ t. role.Table t) q.tables) (tables_input p q.tables) (Ok tables)
+    → Loads before after (map of_table q.tables) (after_query command p prices q) (Ok (with_files command p prices q tables))
+tables_all command before after p prices q tables loads =
+    loads_last before.held (map of_table q.tables) (tables_input p q.tables) tables (λ tables. with_files command p prices q tables) loads
 
 -- what is so of the files of `run` is so of those of its command
 pub command_loaded : (command : RunCommand) (before after : ShelfState) (t : RunTask)
@@ -149,12 +181,7 @@ pub command_loaded : (command : RunCommand) (before after : ShelfState) (t : Run
 command_loaded command before after t loaded = record {
   files = loaded.files;
   apart = loaded.apart;
-  loads = record {
-    seen = loaded.loads.seen;
-    roles = loaded.loads.roles;
-    are_held = loaded.loads.are_held;
-    always = λ lookup gives. ap (λ o. and_then o (λ t. Ok (task.Run t))) (loaded.loads.always lookup gives);
-  };
+  loads = loads_last before.held loaded.files (run_task command) t (λ t. task.Run t) loaded.loads;
 }
 
 pub command_stopped : (command : RunCommand) (before after : ShelfState) (error : LoadNo) → Follows before after
@@ -162,7 +189,5 @@ pub command_stopped : (command : RunCommand) (before after : ShelfState) (error 
 command_stopped command before after error follows loaded = record {
   files = loaded.files;
   apart = loaded.apart;
-  loads = loads_after before before after [] loaded.files (λ lookup. Unit {0}) (run_task command) (task_of (run command)) error
-      (λ lookup stop none stops. ap (λ o. and_then o (λ t. Ok (task.Run t))) stops) (same_state before) follows
-      (Knows-none before.held (λ lookup. Unit {0}) (λ lookup. tt)) loaded.loads;
+  loads = loads_stopped before after loaded.files (run_task command) (λ t lookup. Ok (task.Run t)) error follows loaded.loads;
 }

@@ -13,6 +13,8 @@ use Rattle.mq_base.specs.declared.table.PlainTable.{PlainTable}
 use Rattle.mq_base.specs.Refusal.{refusal}
 use Rattle.policy_reader.specs.declared.policy.Policy.{Policy}
 use Rattle.policy_reader.specs.Outcome.{policy_outcome}
+use Rattle.price_reader.specs.declared.prices.Prices.{Prices}
+use Rattle.price_reader.specs.Outcome.{price_outcome}
 use Rattle.query_bind.specs.Outcome.{bind_outcome}
 use Rattle.sql_lexer.specs.Codes.{bad_char}
 use Rattle.sql_reader.specs.Outcome.{query_outcome}
@@ -69,6 +71,10 @@ and_then (Err e) next = Err e
 unfoldable pub policy_input : List ℕ → Lookup → Result Policy Stop
 policy_input name lookup = opened role.Policy name policy_outcome (lookup role.Policy name)
 
+-- the prices
+unfoldable pub prices_input : Policy → List ℕ → Lookup → Result Prices Stop
+prices_input p name lookup = opened role.Prices name (price_outcome p) (lookup role.Prices name)
+
 -- a query that is answered so far: one of one table, without a condition and without a group
 abbrev pub answered : Query → Result Query Refusal
 answered q = if is_plain q then Ok q else Err (refusal 99 0 0)
@@ -104,13 +110,14 @@ tables_input p [] lookup = Ok []
 tables_input p (t ∷ rest) lookup =
     and_then (table_input p t lookup) (λ table. and_then (tables_input p rest lookup) (λ tables. Ok (table ∷ tables)))
 
--- the files of a command `run`: the policy, the query, and the tables of the query in the order of FROM
+-- the files of a command `run`: the policy, the prices, the query, and the tables of the query in the order of FROM
 unfoldable pub run_task : RunCommand → Lookup → Result RunTask Stop
 run_task command lookup =
     and_then (policy_input command.policy lookup) (λ p.
+    and_then (prices_input p command.prices lookup) (λ prices.
     and_then (query_input p command.query lookup) (λ q.
     and_then (tables_input p q.tables lookup) (λ tables.
-    Ok (record { policy = p; query = q; tables = tables; seed = command.seed; schedule = command.schedule }))))
+    Ok (record { policy = p; prices = prices; query = q; tables = tables; seed = command.seed; schedule = command.schedule })))))
 
 -- the files of a command: what they stand for together, or where they stop it
 abbrev pub task_of : Command → Lookup → Result Task Stop

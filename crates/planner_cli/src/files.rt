@@ -4,8 +4,9 @@ ghost use Rattle.std.specs.Str.{IsUtf8};
 ghost use Rattle.mq_base.specs.BoundQuery.{IsBound};
 ghost use Rattle.outside_io.specs.Outside.{IsHeld, Follows};
 ghost use Rattle.policy_reader.specs.Accepted.{IsAccepted};
+ghost use Rattle.price_reader.specs.Priced.{IsPriced};
 ghost use Rattle.planner_cli.specs.Commands.{command_in, run_in};
-ghost use Rattle.planner_cli.specs.Input.{most, policy_input, query_input, table_input, tables_input, table_file, run_task, task_of};
+ghost use Rattle.planner_cli.specs.Input.{most, policy_input, prices_input, query_input, table_input, tables_input, table_file, run_task, task_of};
 ghost use Rattle.planner_cli.specs.inside.Loading.{StopsReading, Loads, Loaded, IsSoundRun, IsSound};
 ghost use Rattle.planner_cli.specs.Selection.{is_plain};
 
@@ -17,6 +18,7 @@ use crate::words::{Command, RunWords};
 use mq_base::{NoMemory, PlainTable, Query, Refusal, Seq, TableId, Text};
 use outside_io::{Shelf, ShelfNo};
 use policy_reader::{Policy, read_policy};
+use price_reader::{Prices, read_prices};
 use std::alloc::Global;
 use std::str;
 use table_reader::read_table;
@@ -59,6 +61,25 @@ fn load_policy<H: Shelf>(alloc: Global, shelf: &mut H, name: &str) -> Result<Pol
 {
     let bytes = read_file(alloc, shelf, FileRole::Policy, name)?;
     judge(FileRole::Policy, read_policy(alloc, bytes.as_slice()))
+}
+
+// The prices of a command.
+fn load_prices<H: Shelf>(
+    alloc: Global,
+    shelf: &mut H,
+    policy: &Policy,
+    name: &str,
+) -> Result<Prices, LoadNo>
+    requires { IsAccepted policy.now }
+    ensures loads { Loads (H.state shelf.old) (H.state shelf.new) (FileRole.Prices ∷ []) (prices_input policy.now name.now) result }
+    ensures priced { IfOk result (IsPriced (length policy.now.schema.attrs)) }
+    ensures follows { Follows (H.state shelf.old) (H.state shelf.new) }
+{
+    let bytes = read_file(alloc, shelf, FileRole::Prices, name)?;
+    judge(
+        FileRole::Prices,
+        read_prices(alloc, bytes.as_slice(), policy),
+    )
 }
 
 // The query of a command.
@@ -145,10 +166,12 @@ fn load_run<H: Shelf>(alloc: Global, shelf: &mut H, words: &RunWords) -> Result<
     ensures follows { Follows (H.state shelf.old) (H.state shelf.new) }
 {
     let policy = load_policy(alloc, shelf, words.policy)?;
+    let prices = load_prices(alloc, shelf, &policy, words.prices)?;
     let query = load_query(alloc, shelf, &policy, words.query)?;
     let tables = load_tables(alloc, shelf, &policy, query.tables.as_slice())?;
     Ok(RunTask {
         policy,
+        prices,
         query,
         tables,
         seed: words.seed,

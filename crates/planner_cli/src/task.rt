@@ -1,5 +1,6 @@
 use mq_base::{PlainTable, Query, Seq};
 use policy_reader::Policy;
+use price_reader::Prices;
 
 // What the accepted files of a command stand for.
 #[derive(Drop)]
@@ -11,6 +12,7 @@ pub enum Task {
 #[derive(Drop)]
 pub struct RunTask {
     pub policy: Policy,
+    pub prices: Prices,
     pub query: Query,
     pub tables: Seq<PlainTable>,
     pub seed: [u8; 32],

@@ -21,6 +21,10 @@ const SEALED_B: &str = "plain = [\"a\"]\nsealed = [\"b\"]\n";
 
 const PLAIN_BOTH: &str = "plain = [\"a\", \"b\"]\n";
 
+// The prices of the first row.
+const PRICES: &str =
+    "version = 1\n[cpu]\nO = 1\nU = 2\n[net]\ndefault = 3\n[rows]\nr = 10\n[distinct]\na = 5\nb = 7\n";
+
 const ROWS: &str = "a,b\n1,x\n-2,y\n1,z\n";
 
 const SEED: &str = "0000000000000000000000000000000000000000000000000000000000000000";
@@ -33,6 +37,7 @@ const REPORT: &str = "plan [[\"base\",\"r\"],[\"send\",\"U\"]]\nanswer\na\n-2\n1
 fn files(
     alloc: Global,
     policy: (&str, &str),
+    prices: &str,
     query: &[u8],
     table: &str,
 ) -> Result<Seq<(Text, Text)>, NoMemory>
@@ -44,6 +49,10 @@ fn files(
     files.push((
         Text::copied(alloc, b"policy")?,
         Text::of(whole.into_bytes()),
+    ))?;
+    files.push((
+        Text::copied(alloc, b"prices")?,
+        Text::copied(alloc, prices.as_bytes())?,
     ))?;
     files.push((Text::copied(alloc, b"query")?, Text::copied(alloc, query)?))?;
     files.push((
@@ -135,7 +144,7 @@ const REPORTS: [Row; 6] = [
 
 fn check_rows(rt: &impl Abort, alloc: Global, rows: &[Row]) -> Result<(), NoMemory> {
     for (policy, query, table, want, written) in rows {
-        let files = files(alloc, *policy, query.as_bytes(), table)?;
+        let files = files(alloc, *policy, PRICES, query.as_bytes(), table)?;
         let mut sink = MemorySink::of(alloc, Seq::new(alloc));
         let status = ran(alloc, &RUN, files, &mut sink)?;
         assert_eq!(rt; status, *want, "{query}");
@@ -208,6 +217,108 @@ fn the_first_refused_file_decides(rt: HostRuntime) -> Result<(), Fail> {
     Ok(())
 }
 
+// Price files, each with the line of its refusal: the first row's prices with one thing changed, and an empty file.
+const REFUSED_PRICES: [(&str, InputFault, &str); 5] = [
+    (
+        "version = 1\n\n[cpu]\nO = 1\nU = 2\n\n[distinct]\na = 5\nb = 7\n\n[[link]]\nfrom = \"O\"\nprice = 1\nto = \"O\"\n\n[net]\ndefault = 3\n\n[rows]\nr = 10\n",
+        InputFault {
+            file: FileRole::Prices,
+            code: 6,
+            at: 2,
+            item: 0,
+        },
+        "input prices code 6 at 2 item 0",
+    ),
+    (
+        "version = 1\n\n[cpu]\nO = 1\nU = 2\n\n[distinct]\na = 0\nb = 7\n\n[net]\ndefault = 3\n\n[rows]\nr = 10\n",
+        InputFault {
+            file: FileRole::Prices,
+            code: 4,
+            at: 4,
+            item: 0,
+        },
+        "input prices code 4 at 4 item 0",
+    ),
+    (
+        "version = 1\n\n[cpu]\nO = 1\n\n[distinct]\na = 5\nb = 7\n\n[net]\ndefault = 3\n\n[rows]\nr = 10\n",
+        InputFault {
+            file: FileRole::Prices,
+            code: 5,
+            at: 0,
+            item: 1,
+        },
+        "input prices code 5 at 0 item 1",
+    ),
+    (
+        "version = 1\n\n[cpu]\nO = 1\nU = 2\n\n[distinct]\na = 5\nb = 7\n\n[net]\ndefault = -1\n\n[rows]\nr = 10\n",
+        InputFault {
+            file: FileRole::Prices,
+            code: 4,
+            at: 1,
+            item: 0,
+        },
+        "input prices code 4 at 1 item 0",
+    ),
+    (
+        "",
+        InputFault {
+            file: FileRole::Prices,
+            code: 2,
+            at: 0,
+            item: 0,
+        },
+        "input prices code 2 at 0 item 0",
+    ),
+];
+
+// The status of a command with these files, and how much it writes.
+fn ended(
+    alloc: Global,
+    policy: (&str, &str),
+    prices: &str,
+    query: &str,
+) -> Result<(Status, usize), NoMemory> {
+    let files = files(alloc, policy, prices, query.as_bytes(), ROWS)?;
+    let mut sink = MemorySink::of(alloc, Seq::new(alloc));
+    let status = ran(alloc, &RUN, files, &mut sink)?;
+    Ok((status, sink.written().len()))
+}
+
+// The refusal comes before that of a query, and after that of a policy.
+fn check_prices(
+    rt: &impl Abort,
+    alloc: Global,
+    rows: &[(&str, InputFault, &str)],
+) -> Result<(), Fail> {
+    for (prices, fault, line) in rows {
+        let want = Status::Input(*fault);
+        let policy = (FRONT, PLAIN_A);
+        assert_eq!(rt; want.to_string(alloc)?.as_str(), *line);
+        assert_eq!(rt;
+            ended(alloc, policy, prices, "select a from r")?,
+            (want, 0),
+            "{line}"
+        );
+        assert_eq!(rt;
+            ended(alloc, policy, prices, "select")?,
+            (want, 0),
+            "{line}"
+        );
+        let first = refused(FileRole::Policy, 1, 0, 0);
+        assert_eq!(rt;
+            ended(alloc, ("version =", ""), prices, "select")?,
+            (first, 0),
+            "{line}"
+        );
+    }
+    Ok(())
+}
+
+#[test]
+fn prices_are_refused_between_policy_and_query(rt: HostRuntime) -> Result<(), Fail> {
+    check_prices(&rt, rt.alloc(), &REFUSED_PRICES)
+}
+
 // The number of a row: of a thousand rows each number from -250 to 249 is that of two.
 fn number_of(row: u32) -> i64 {
     i64::from(row.wrapping_mul(7) % 500) - 250
@@ -254,9 +365,12 @@ fn a_thousand_rows_are_sorted(rt: HostRuntime) -> Result<(), Fail> {
 const THREE_TABLES: &str =
     "version = 1\nuser = \"U\"\nsubjects = [\"O\", \"U\"]\n[[table]]\nname = \"r\"\nowner = \"O\"\ncolumns = [{ name = \"a\", type = \"INT\" }, { name = \"b\", type = \"TEXT\" }]\n[[table]]\nname = \"s\"\nowner = \"O\"\ncolumns = [{ name = \"c\", type = \"INT\" }, { name = \"d\", type = \"INT\" }, { name = \"e\", type = \"TEXT\" }]\n[[table]]\nname = \"t\"\nowner = \"O\"\ncolumns = [{ name = \"f\", type = \"INT\" }]\n";
 
+const THREE_PRICES: &str =
+    "version = 1\n[cpu]\nO = 1\nU = 1\n[net]\ndefault = 1\n[rows]\nr = 1\ns = 1\nt = 1\n[distinct]\na = 1\nb = 1\nc = 1\nd = 1\ne = 1\nf = 1\n";
+
 // The status of a command with this query.
 fn status_of(alloc: Global, query: &[u8]) -> Result<Status, NoMemory> {
-    let files = files(alloc, (THREE_TABLES, ""), query, "a,b\n")?;
+    let files = files(alloc, (THREE_TABLES, ""), THREE_PRICES, query, "a,b\n")?;
     let mut sink = MemorySink::of(alloc, Seq::new(alloc));
     ran(alloc, &RUN, files, &mut sink)
 }
@@ -364,13 +478,13 @@ fn queries_are_text(rt: HostRuntime) -> Result<(), Fail> {
 }
 
 // Each row has the words and the status, over the first row's files.
-const COMMANDS: [(&[&str], Status); 9] = [
+const COMMANDS: [(&[&str], Status); 10] = [
     (&RUN, Status::Done),
     (
         &[
             "run",
             "policy",
-            "any",
+            "prices",
             "query",
             SEED,
             "00000000000000000000",
@@ -406,13 +520,17 @@ const COMMANDS: [(&[&str], Status); 9] = [
         &["run", "nothing", "prices", "query", SEED, "0"],
         Status::ReadFault(FileRole::Policy),
     ),
+    (
+        &["run", "policy", "nothing", "query", SEED, "0"],
+        Status::ReadFault(FileRole::Prices),
+    ),
 ];
 
 // The first row's files.
 fn first_files(alloc: Global) -> Result<Seq<(Text, Text)>, NoMemory>
     ensures { IfOk result HasDistinctNames }
 {
-    files(alloc, (FRONT, PLAIN_A), b"select a from r", ROWS)
+    files(alloc, (FRONT, PLAIN_A), PRICES, b"select a from r", ROWS)
 }
 
 fn check_commands(
@@ -435,10 +553,11 @@ fn words_have_a_command(rt: HostRuntime) -> Result<(), Fail> {
 }
 
 // The read that fails, and the file that the status names; nothing is written.
-const READS: [(u64, FileRole, &str); 3] = [
+const READS: [(u64, FileRole, &str); 4] = [
     (1, FileRole::Policy, "read fault policy"),
-    (2, FileRole::Query, "read fault query"),
-    (3, FileRole::Table(TableId(0)), "read fault table 0"),
+    (2, FileRole::Prices, "read fault prices"),
+    (3, FileRole::Query, "read fault query"),
+    (4, FileRole::Table(TableId(0)), "read fault table 0"),
 ];
 
 // The first row's command over a shelf of which one read fails.

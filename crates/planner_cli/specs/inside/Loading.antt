@@ -5,6 +5,7 @@ use Rattle.mq_base.specs.BoundQuery.{AreDistinct, IsBound}
 use Rattle.mq_base.specs.Refusal.{refusal}
 use Rattle.outside_io.specs.Outside.{Files, ShelfState, IsHeld, IsAbsent, TakesWithin, Rose}
 use Rattle.policy_reader.specs.Accepted.{IsAccepted}
+use Rattle.price_reader.specs.Priced.{IsPriced}
 use Rattle.planner_cli.specs.declared.load_no.LoadNo.{LoadNo}
 use Rattle.planner_cli.specs.declared.load_no.LoadNo.TheVariants.{Refused, Failed, NoMemory}
 use Rattle.planner_cli.specs.declared.status.FileRole.{FileRole}
@@ -123,6 +124,7 @@ Judges file (Err NoMemory) outcome = Unit {0}
 -- what the end of `run` relies on in its task
 pub record IsSoundRun (t : RunTask) : Type 0 where
   pub policy : IsAccepted t.policy
+  pub prices : IsPriced (length t.policy.schema.attrs) t.prices
   pub query : IsBound t.policy.schema t.query
   pub plain : is_plain t.query ≡ true
   pub tables : length t.tables ≡ length t.query.tables
