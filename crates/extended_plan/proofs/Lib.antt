@@ -1,0 +1,16 @@
+mod Examples
+pub mod PlaceLaws
+pub mod ViewLaws
+pub mod TermLaws
+pub mod EntryLaws
+pub mod BoundLaws
+pub mod LeastLaws
+pub mod SpellLaws
+pub mod ListLaws
+pub mod GainLaws
+pub mod JobLaws
+pub mod ReadyLaws
+pub mod StackLaws
+pub mod SlotLaws
+pub mod AtLaws
+pub mod PassLaws

@@ -1,0 +1,15 @@
+pub mod Setting
+pub mod Term
+pub mod Validity
+pub mod States
+pub mod Gains
+pub mod Ready
+pub mod PropLaws
+pub mod Parts
+pub mod Job
+pub mod Certificate
+pub mod StepList
+pub mod StepListLaws
+pub mod Laws
+pub mod Room
+pub mod inside

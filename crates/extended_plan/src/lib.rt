@@ -1,0 +1,26 @@
+//! Extended plans: the query's plan with encryptions, decryptions and sends, their states and costs, and the laws that bound every
+//! one of them. It stands on the profiles, the authority and the costs of single steps; search, certificates and providers stand on it.
+#![tactic(auto)]
+
+mod check;
+mod job;
+mod laws;
+mod list_laws;
+mod planned;
+mod stack;
+mod state;
+mod step;
+mod step_no;
+
+pub use check::{check_steps, check_steps_in};
+pub use job::Job;
+pub use laws::{
+    closed_labels_bound, gains_are_terms, least_has_certificate, least_is_shown,
+    least_labels_are_closed, none_has_certificate, none_is_shown, spelling_determines,
+    terms_are_gained, terms_are_seen,
+};
+pub use list_laws::outcomes_are_exact;
+pub use stack::StepStack;
+pub use state::{Entry, Found, Labels, PlanTotals, State};
+pub use step::{after_step, leaf_state};
+pub use step_no::{StepNo, StepWhy, StepsNo};
