@@ -1,0 +1,12 @@
+pub mod WayLaws
+pub mod SpanLaws
+pub mod BlockLaws
+pub mod PlaceLaws
+pub mod CountLaws
+pub mod TellLaws
+pub mod LabelLaws
+pub mod AnswerLaws
+pub mod GoalLaws
+pub mod GrowLaws
+pub mod PairLaws
+pub mod SortLaws

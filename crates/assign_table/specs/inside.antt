@@ -1,0 +1,4 @@
+pub mod Blocks
+pub mod Pairs
+pub mod Spans
+pub mod Ways

@@ -1,0 +1,28 @@
+use extended_plan::State;
+use mq_base::{NodeId, Step, TableId};
+
+/// How a state was reached. Operands are places of the arena of settled states, before one's own.
+#[derive(Clone, Copy, Debug, PartialEq, Eq)]
+pub enum Way {
+    /// As the leaf of a table.
+    Leaf(TableId),
+    /// By a step on the state at a place: an encryption, a decryption, a send, or a node's operation on one operand.
+    One {
+        step: Step,
+        operand: usize,
+    },
+    /// By a node's operation on the states at two places.
+    Two {
+        node: NodeId,
+        left: usize,
+        right: usize,
+    },
+}
+
+/// A state that no longer waits, with its final label and the way in which it was reached.
+#[derive(Clone, Copy, Debug, PartialEq, Eq)]
+pub struct Settled {
+    pub state: State,
+    pub label: u128,
+    pub way: Way,
+}
