@@ -1,0 +1,7 @@
+pub mod CellLaws
+mod Examples
+pub mod LockLaws
+pub mod OpenLaws
+pub mod RowLaws
+pub mod SealFacts
+pub mod SmallLaws
