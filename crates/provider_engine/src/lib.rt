@@ -1,0 +1,10 @@
+//! What a provider makes of the steps of an extended plan: the encoded table of each step, that decoding it gives the plain meaning, and
+//! that columns which a subject may see in no form do not matter to what it holds.
+#![tactic(auto)]
+
+mod laws;
+
+pub use laws::{
+    hidden_columns_do_not_matter, hidden_columns_do_not_matter_to_holders, nodes_are_narrow,
+    plans_are_typed, runs_decode, seals_are_shared, valid_plans_decode,
+};
