@@ -1,4 +1,4 @@
-//! Tests of the readers of policies, tables and queries, over public calls alone. There is no code here: the crates
+//! Tests of the readers of policies, prices, tables and queries, over public calls alone. There is no code here: the crates
 //! below keep no tests, so that none of them is proved twice.
 #![tactic(auto)]
 
@@ -6,6 +6,8 @@
 mod binding;
 #[cfg(test)]
 mod policies;
+#[cfg(test)]
+mod prices;
 #[cfg(test)]
 mod printing;
 #[cfg(test)]
