@@ -10,3 +10,10 @@ pub mod GoalLaws
 pub mod GrowLaws
 pub mod PairLaws
 pub mod SortLaws
+pub mod StateLaws
+pub mod ArenaLaws
+pub mod SheetLaws
+pub mod OrderLaws
+pub mod SettleLaws
+pub mod GainLaws
+pub mod TurnLaws

@@ -5,7 +5,9 @@
 mod answer;
 mod goal;
 mod labels;
+mod settle;
 mod spell;
+mod table;
 mod way;
 
 pub use answer::SearchNo;

@@ -1,0 +1,215 @@
+-- Steps that gain nothing, and loops over the steps that may gain something.
+use Rattle.std.proofs.Common.{◌≡◌, ℕ, ◌+◌, ◌-◌, ◌^◌, ◌≤◌, ◌<◌, ◌⊎◌, inl, inr, Bool, true, false, ◌&&◌, ◌==◌, not, List, length, Option, Some, None, Result, Ok, Err, OnOk, if◌then◌else◌, refl, sym, ◌∙◌, ap, subst, true≢false, arith, nat_lt}
+use Rattle.std.specs.Prelude.{IfSome, option_map}
+use Rattle.std.proofs.lemmas.Bool.{le-ltb}
+use Rattle.std.proofs.lemmas.Nat.Bits.{bit_at_above}
+use Rattle.base_laws.specs.Sets.{has, without}
+use Rattle.base_laws.proofs.SetLaws.{has-without}
+use Rattle.mq_base.specs.declared.attr_set.AttrSet.{AttrSet}
+use Rattle.mq_base.specs.declared.ids.AttrId.{AttrId}
+use Rattle.mq_base.specs.declared.ids.SubjectId.{SubjectId}
+use Rattle.mq_base.specs.declared.ids.NodeId.{NodeId}
+use Rattle.mq_base.specs.declared.plan.Step.{Step}
+use Rattle.mq_base.specs.declared.plan.Step.TheVariants as step
+use Rattle.cost_model.specs.Costs.{cut, step_work}
+use Rattle.relation_profile.specs.Steps.{after_dec, after_enc}
+use Rattle.extended_plan.specs.declared.state.State.{State}
+use Rattle.extended_plan.specs.Gains.{Gain, dec_gain, enc_gain, held, send_gain, shown, step_gain}
+use Rattle.extended_plan.specs.Job.{IsStateAt, IsTakenOn, told}
+use Rattle.extended_plan.specs.Ready.{IsReady}
+use Rattle.extended_plan.specs.Setting.{Setting, known_at}
+use Rattle.assign_table.specs.declared.table.Cell.{Cell}
+use Rattle.assign_table.specs.declared.way.Settled.{Settled}
+use Rattle.assign_table.specs.declared.way.Way.TheVariants as way
+use Rattle.assign_table.specs.inside.Settling.{AreCryptsListed, Continues, IsClosedOn, IsGainListed, ShowsCrowd, Stays}
+use Rattle.assign_table.specs.inside.Sheet.{IsOffered, IsRefused, Sheet}
+use Rattle.assign_table.proofs.ArenaLaws.{below-or-above, below-or-last}
+use Rattle.assign_table.proofs.SettleLaws.{continues-offered, crowd-gained, cut-both, gain-later, gain-listed}
+
+-- what a call told of a gain
+pub record IsTold (found : Option Gain) (st : State) (paid : ℕ) : Type 0 where
+  pub gain : Gain
+  pub is : found ≡ Some gain
+  pub state : gain.state ≡ st
+  pub cost : cut gain.cost ≡ paid
+
+pub told-gain : (found : Option Gain) (answer : State × ℕ) → Some answer ≡ option_map told found → IsTold found answer.0 answer.1
+told-gain None answer is = cc
+told-gain (Some gain) answer is =
+    let same : answer ≡ told gain = cc in
+    record { gain = gain; is = refl; state = sym (ap (λ (p : State × ℕ). p.0) same); cost = sym (ap (λ (p : State × ℕ). p.1) same) }
+
+pub told-none : (found : Option Gain) → None ≡ option_map told found → found ≡ None
+told-none None is = refl
+told-none (Some gain) is = cc
+
+-- a step that stays is taken on a state at its node
+pub stays-taken : (s : Setting) (n : NodeId) (act : Step) (st : State) → Stays act → IsStateAt s n.0 st → IsTakenOn s n act st None
+stays-taken s n (step.Enc a) st stays known = known
+stays-taken s n (step.Dec a) st stays known = known
+stays-taken s n (step.Send to) st stays known = known
+stays-taken s n (step.Base t) st stays known = absurd stays
+stays-taken s n (step.Un m) st stays known = absurd stays
+stays-taken s n (step.Bin m) st stays known = absurd stays
+
+-- what follows from two facts of a success is one of it
+pub on-both : {E P Q R : Type 0} (r : Result (Unit {0}) E) → (P → Q → R) → OnOk r P → OnOk r Q → OnOk r R
+on-both (Ok done) rule first second = rule first second
+on-both (Err e) rule first second = tt
+
+-- a step that gains nothing lists all that it gains
+pub none-listed : (s : Setting) (n : NodeId) (act : Step) (e : Settled) (cells : List (State × Cell))
+    → None ≡ option_map told (step_gain s n act e.state None) → IfSome (step_gain s n act e.state None) (IsGainListed cells e.label)
+none-listed s n act e cells answers =
+    subst (λ gain. IfSome gain (IsGainListed cells e.label)) (sym (told-none (step_gain s n act e.state None) answers)) tt
+
+module _ (s : Setting) (ready : IsReady s) (n : NodeId) (room at : ℕ) (e : Settled) (act : Step) (stays : Stays act) (st : State) (cost label : ℕ)
+    (answers : Some (st, cost) ≡ option_map told (step_gain s n act e.state None)) (sum : label ≡ cut (e.label + cost)) where
+  gain_told : IsTold (step_gain s n act e.state None) st cost
+  gain_told = told-gain (step_gain s n act e.state None) (st, cost) answers
+
+  sum_told : label ≡ cut (e.label + gain_told.gain.cost)
+  sum_told = sum ∙ ap (λ k. cut (e.label + k)) (sym gain_told.cost) ∙ cut-both e.label gain_told.gain.cost (2 ^ 128 - 1)
+
+  offered_told : (old new : Sheet) → IsOffered old st label (way.One act at) new → IsOffered old gain_told.gain.state label (way.One act at) new
+  offered_told old new offered = subst (λ st. IsOffered old st label (way.One act at) new) (sym gain_told.state) offered
+
+  -- a step that gains something was offered
+  pub step-continues : (old new : Sheet) → e.label ≤ label → IsStateAt s n.0 st → IsOffered old st label (way.One act at) new
+      → (length old.cells ≤ room → length new.cells ≤ room) → Continues s n.0 room at e old new
+  step-continues old new high known offered within =
+      continues-offered s ready n room at e act stays gain_told.gain gain_told.is old new label sum_told high (offered_told old new offered)
+      (subst (IsStateAt s n.0) (sym gain_told.state) known) within
+
+  -- and what it gains is listed
+  pub step-listed : (old new : Sheet) → IsOffered old st label (way.One act at) new
+      → IfSome (step_gain s n act e.state None) (IsGainListed new.cells e.label)
+  step-listed old new offered =
+      subst (λ gain. IfSome gain (IsGainListed new.cells e.label)) (sym gain_told.is)
+      (gain-listed s ready n room at e act stays gain_told.gain gain_told.is old new label sum_told (offered_told old new offered))
+
+  -- or it was refused
+  pub step-crowd : (old : Sheet) → IsRefused room old st → ShowsCrowd s n.0 room at e old
+  step-crowd old refused =
+      crowd-gained s ready n room at e act stays gain_told.gain gain_told.is old (subst (IsRefused room old) (sym gain_told.state) refused)
+
+-- an attribute that is not visible is neither encrypted nor decrypted
+pub crypts-none : (s : Setting) (n : ℕ) (cells : List (State × Cell)) (e : Settled) (a : AttrId) → IsStateAt s n e.state
+    → has (known_at s n).visible.0 a.0 ≡ false → AreCryptsListed s n a cells e
+crypts-none s n cells e a known hidden = record {
+  enc = subst (λ gain. IfSome gain (IsGainListed cells e.label)) (sym no_enc) tt;
+  dec = subst (λ gain. IfSome gain (IsGainListed cells e.label)) (sym no_dec) tt;
+}
+  where
+    plain : has (without (known_at s n).visible.0 e.state.view.enc.0) a.0 ≡ false
+    plain = has-without (known_at s n).visible.0 e.state.view.enc.0 a.0 ∙ ap (λ b. b && not (has e.state.view.enc.0 a.0)) hidden
+
+    sealed : (b : Bool) → has e.state.view.enc.0 a.0 ≡ b → has e.state.view.enc.0 a.0 ≡ false
+    sealed true is = absurd (true≢false (sym (known.view.visible.member a.0 is) ∙ hidden))
+    sealed false is = is
+
+    no_enc : enc_gain s n a e.state ≡ None
+    no_enc =
+        ap (λ b. held s e.state.holder (if b then Some (after_enc a.0 (shown s n e.state)) else None)
+        (step_work s.basis (step.Enc a) e.state.holder.0 n e.state.view)) plain
+
+    no_dec : dec_gain s n a e.state ≡ None
+    no_dec =
+        ap (λ b. held s e.state.holder (if b then Some (after_dec a.0 (shown s n e.state)) else None)
+        (step_work s.basis (step.Dec a) e.state.holder.0 n e.state.view)) (sealed (has e.state.view.enc.0 a.0) refl)
+
+-- a send to none of the at most 16 subjects gains nothing
+pub sends-none : (s : Setting) → IsReady s → (n : ℕ) (st : State) (to : SubjectId) (cells : List (State × Cell)) (label : ℕ) → 16 ≤ to.0
+    → IfSome (send_gain s n to st) (IsGainListed cells label)
+sends-none s ready n st to cells label beyond =
+    let few : length s.policy.subjects ≤ 16 = ready.few_subjects in
+    let none : nat_lt to.0 (length s.policy.subjects) ≡ false = le-ltb to.0 (length s.policy.subjects) (omega arith) in
+    subst (λ gain. IfSome gain (IsGainListed cells label))
+    (sym (ap (λ b. if b && not (to.0 == st.holder.0) then held s to (Some (shown s n st)) (step_work s.basis (step.Send to) st.holder.0 n st.view) else None) none))
+    tt
+
+-- what encryptions and decryptions gain is listed later
+pub crypts-later : (s : Setting) (n room at : ℕ) (e : Settled) (old new : Sheet) → Continues s n room at e old new → (a : AttrId)
+    → AreCryptsListed s n a old.cells e → AreCryptsListed s n a new.cells e
+crypts-later s n room at e old new later a listed = record {
+  enc = gain-later s n room at e old new later e.label (enc_gain s n a e.state) listed.enc;
+  dec = gain-later s n room at e old new later e.label (dec_gain s n a e.state) listed.dec;
+}
+
+-- an encryption was tried, and then the decryption
+pub crypts-tried : (s : Setting) (n room at : ℕ) (e : Settled) (old new : Sheet) (a : AttrId)
+    → IfSome (enc_gain s n a e.state) (IsGainListed old.cells e.label) → Continues s n room at e old new
+    → IfSome (dec_gain s n a e.state) (IsGainListed new.cells e.label) → AreCryptsListed s n a new.cells e
+crypts-tried s n room at e old new a first later second =
+    record { enc = gain-later s n room at e old new later e.label (enc_gain s n a e.state) first; dec = second }
+
+-- each visible attribute below one more was tried
+pub attributes-more : (s : Setting) (n room at : ℕ) (e : Settled) (old new : Sheet) (visible : AttrSet) (i : ℕ)
+    → Continues s n room at e old new
+    → ((a : AttrId) → a.0 < i → has visible.0 a.0 ≡ true → AreCryptsListed s n a old.cells e)
+    → AreCryptsListed s n (record { 0 = i }) new.cells e
+    → (a : AttrId) → a.0 < i + 1 → has visible.0 a.0 ≡ true → AreCryptsListed s n a new.cells e
+attributes-more s n room at e old new visible i later before here a below there = by_order (below-or-last a.0 i below)
+  where
+    by_order : (a.0 < i) ⊎ (a.0 ≡ i) → AreCryptsListed s n a new.cells e
+    by_order (inl less) = crypts-later s n room at e old new later a (before a less there)
+    by_order (inr same) = subst (λ k. AreCryptsListed s n (record { 0 = k }) new.cells e) (sym same) here
+
+-- one that is not visible need not be
+pub attributes-skip : (s : Setting) (n : ℕ) (e : Settled) (sheet : Sheet) (visible : AttrSet) (i : ℕ) → has visible.0 i ≡ false
+    → ((a : AttrId) → a.0 < i → has visible.0 a.0 ≡ true → AreCryptsListed s n a sheet.cells e)
+    → (a : AttrId) → a.0 < i + 1 → has visible.0 a.0 ≡ true → AreCryptsListed s n a sheet.cells e
+attributes-skip s n e sheet visible i hidden before a below there = by_order (below-or-last a.0 i below)
+  where
+    by_order : (a.0 < i) ⊎ (a.0 ≡ i) → AreCryptsListed s n a sheet.cells e
+    by_order (inl less) = before a less there
+    by_order (inr same) = absurd (true≢false (sym (subst (λ k. has visible.0 k ≡ true) same there) ∙ hidden))
+
+-- and so all were
+pub attributes-all : (s : Setting) (n : ℕ) (e : Settled) (sheet : Sheet) (visible : AttrSet) (i : ℕ) → 64 ≤ i → visible.0 < 2 ^ 64
+    → visible ≡ (known_at s n).visible → IsStateAt s n e.state
+    → ((a : AttrId) → a.0 < i → has visible.0 a.0 ≡ true → AreCryptsListed s n a sheet.cells e)
+    → (a : AttrId) → AreCryptsListed s n a sheet.cells e
+attributes-all s n e sheet visible i end small same known before a = by_test (has visible.0 a.0) refl
+  where
+    none : has visible.0 a.0 ≡ false → AreCryptsListed s n a sheet.cells e
+    none hidden = crypts-none s n sheet.cells e a known (subst (λ (set : AttrSet). has set.0 a.0 ≡ false) same hidden)
+
+    by_order : has visible.0 a.0 ≡ true → (a.0 < i) ⊎ (i ≤ a.0) → AreCryptsListed s n a sheet.cells e
+    by_order there (inl less) = before a less there
+    by_order there (inr beyond) = none (ap (λ b. b == 1) (bit_at_above visible.0 64 a.0 small (omega arith)))
+
+    by_test : (b : Bool) → has visible.0 a.0 ≡ b → AreCryptsListed s n a sheet.cells e
+    by_test true is = by_order is (below-or-above a.0 i)
+    by_test false is = none is
+
+-- each subject below one more was tried
+pub subjects-more : (s : Setting) (n room at : ℕ) (e : Settled) (old new : Sheet) (i : ℕ) → Continues s n room at e old new
+    → ((to : SubjectId) → to.0 < i → IfSome (send_gain s n to e.state) (IsGainListed old.cells e.label))
+    → IfSome (send_gain s n (record { 0 = i }) e.state) (IsGainListed new.cells e.label)
+    → (to : SubjectId) → to.0 < i + 1 → IfSome (send_gain s n to e.state) (IsGainListed new.cells e.label)
+subjects-more s n room at e old new i later before here to below = by_order (below-or-last to.0 i below)
+  where
+    by_order : (to.0 < i) ⊎ (to.0 ≡ i) → IfSome (send_gain s n to e.state) (IsGainListed new.cells e.label)
+    by_order (inl less) = gain-later s n room at e old new later e.label (send_gain s n to e.state) (before to less)
+    by_order (inr same) = subst (λ k. IfSome (send_gain s n (record { 0 = k }) e.state) (IsGainListed new.cells e.label)) (sym same) here
+
+-- and so all were
+pub subjects-all : (s : Setting) → IsReady s → (n : ℕ) (e : Settled) (sheet : Sheet) (i : ℕ) → 16 ≤ i
+    → ((to : SubjectId) → to.0 < i → IfSome (send_gain s n to e.state) (IsGainListed sheet.cells e.label))
+    → (to : SubjectId) → IfSome (send_gain s n to e.state) (IsGainListed sheet.cells e.label)
+subjects-all s ready n e sheet i end before to = by_order (below-or-above to.0 i)
+  where
+    by_order : (to.0 < i) ⊎ (i ≤ to.0) → IfSome (send_gain s n to e.state) (IsGainListed sheet.cells e.label)
+    by_order (inl less) = before to less
+    by_order (inr beyond) = sends-none s ready n e.state to sheet.cells e.label (omega arith)
+
+-- all encryptions and decryptions were tried, and then all sends
+pub steps-closed : (s : Setting) (n room at : ℕ) (e : Settled) (old new : Sheet) → ((a : AttrId) → AreCryptsListed s n a old.cells e)
+    → Continues s n room at e old new → ((to : SubjectId) → IfSome (send_gain s n to e.state) (IsGainListed new.cells e.label))
+    → IsClosedOn s n new.cells e.state e.label
+steps-closed s n room at e old new crypts later sends = record {
+  enc = λ a. (crypts-later s n room at e old new later a (crypts a)).enc;
+  dec = λ a. (crypts-later s n room at e old new later a (crypts a)).dec;
+  send = sends;
+}
