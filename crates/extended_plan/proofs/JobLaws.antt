@@ -1,7 +1,7 @@
 -- The words of a job's setting are those of the layers below it.
 use Rattle.std.proofs.Common.{◌≡◌, ℕ, ◌<◌, ◌==◌, true, false, Bool, length, Option, Some, None, refl, sym, ◌∙◌, ap, subst, arith}
 use Rattle.std.specs.Option.{option_map_or}
-use Rattle.std.specs.Prelude.{◌↔◌, Result, if◌then◌else◌}
+use Rattle.std.specs.Prelude.{◌↔◌, IfSome, Result, if◌then◌else◌}
 use Rattle.std.specs.Result.{is_ok}
 use Rattle.std.proofs.lemmas.Bool.Decides.{nat_tests}
 use Rattle.std.proofs.lemmas.List.Quantifiers.{position-Some}
@@ -29,7 +29,7 @@ use Rattle.extended_plan.specs.declared.job.Job.{Job}
 use Rattle.extended_plan.specs.declared.state.State.{State}
 use Rattle.extended_plan.proofs.ViewLaws.{fits}
 use Rattle.extended_plan.specs.Gains.{leaf_gain, one_profile, shown, two_profile}
-use Rattle.extended_plan.specs.Job.{AreOperands, IsOperand, IsStateAt, setting_of}
+use Rattle.extended_plan.specs.Job.{AreOperands, IsLeafState, IsOperand, IsStateAt, setting_of}
 use Rattle.extended_plan.specs.Ready.{IfBase, IsLeafOf, IsReady}
 use Rattle.extended_plan.specs.Setting.{Setting, is_base, kind_at, known_at, leaf_of, op_at, store_of}
 use Rattle.extended_plan.specs.States.{state}
@@ -136,3 +136,9 @@ pub leaf_gained : (s : Setting) (n : ℕ) (t : TableId) (st : State) → IsReady
 leaf_gained s n t st ready found is =
     ap (λ (st : State). if may_hold s st.holder (shown s n st) then Some st else None) is
     ∙ ap (λ (p : Profile). if may_hold s (store_of s t) p then Some (state s (Leaf t)) else None) (fits s ready (Leaf t) n found refl).shows
+
+-- and is a state at its leaf
+pub leaf_within : (s : Setting) (n : ℕ) (t : TableId) (held : Bool) (st : State) → leaf_of s t ≡ Some n → IsStateAt s n st
+    → IfSome (if held then Some st else None) (IsLeafState s t)
+leaf_within s n t true st found at = λ m there. subst (λ k. IsStateAt s k st) (let both : Some n ≡ Some m = sym found ∙ there in cc) at
+leaf_within s n t false st found at = tt

@@ -1,5 +1,5 @@
 -- The least costs of the states that are reached, cut, are closed labels; so whatever is true of valid extended plans has a certificate.
-use Rattle.std.proofs.Common.{◌≡◌, ℕ, ◌+◌, ◌-◌, ◌^◌, ◌≤◌, Bool, true, false, List, Option, Some, None, if◌then◌else◌, refl, ◌∙◌, ap, arith, min}
+use Rattle.std.proofs.Common.{◌≡◌, ℕ, ◌+◌, ◌-◌, ◌^◌, ◌≤◌, ◌<◌, Bool, true, false, List, Option, Some, None, if◌then◌else◌, refl, ◌∙◌, ap, arith, min}
 use Rattle.std.specs.Prelude.{IfSome}
 use Rattle.std.specs.List.{Contains}
 use Rattle.std.proofs.lemmas.List.Elements.{All-contains}
@@ -12,10 +12,10 @@ use Rattle.extended_plan.specs.declared.state.Entry.{Entry}
 use Rattle.extended_plan.specs.declared.state.State.{State}
 use Rattle.extended_plan.specs.Certificate.{AreLeastLabels, HasLabel, IsCarried, IsLabelling, IsLeastEntry, IsListed, entries_at, is_goal, least_goal}
 use Rattle.extended_plan.specs.Gains.{Gain, dec_gain, enc_gain, leaf_gain, one_gain, send_gain, two_gain}
-use Rattle.extended_plan.specs.Laws.{IsGained, LeastHasCertificate, LeastLabelsAreClosed, NoneHasCertificate}
+use Rattle.extended_plan.specs.Laws.{EntriesTellLeast, IsGained, LeastCostsAreEntries, LeastHasCertificate, LeastLabelsAreClosed, NoneHasCertificate, TellsLeast}
 use Rattle.extended_plan.specs.Ready.{IsReady}
 use Rattle.extended_plan.specs.Setting.{Setting, kind_at, leaf_of, root}
-use Rattle.extended_plan.specs.States.{cost, state}
+use Rattle.extended_plan.specs.States.{IsLeast, Reaches, cost, state}
 use Rattle.extended_plan.specs.Term.{Term, Leaf, Enc, Dec, Send, Un, Bin}
 use Rattle.extended_plan.specs.Validity.{IsValid, StandsAt, is_held}
 use Rattle.extended_plan.proofs.BoundLaws.{goal_valid, uncut, valid_goal}
@@ -177,4 +177,40 @@ none_certified s ready labels are none = record {
   labelling = labelling s ready labels are;
   goal = least_goal-none s (entries_at labels (root s)) (λ k d below goal.
       none _ (entry_valid s _ (are.entries (root s) k d below) goal));
+}
+
+-- a label is the least cost of its state, cut
+least_cut : (label least mine its : ℕ) → label ≡ cut mine → its ≡ least → label ≤ cut its → least ≤ mine → label ≡ cut least
+least_cut label least mine its is same low high = omega arith
+
+least_whole : (label mine : ℕ) → label ≡ cut mine → label < 2 ^ 128 - 1 → mine ≡ label
+least_whole label mine is below = omega arith
+
+under_cut : (label other : ℕ) → label ≤ cut other → label ≤ other
+under_cut label other low = omega arith
+
+pub entries_least : EntriesTellLeast
+entries_least s n e is = record {
+  cut_least = λ least at. least_cut e.label least (cost s is.term) (cost s at.term) is.label at.costs (is.lowest at.term at.reaches) (at.lowest is.term is.reaches);
+  exact = λ below. record {
+    term = is.term;
+    reaches = is.reaches;
+    costs = least_whole e.label (cost s is.term) is.label below;
+    lowest = λ x reaches. under_cut e.label (cost s x) (is.lowest x reaches);
+  };
+}
+
+-- a least cost, cut, makes an entry
+cut_under : (label least mine : ℕ) → label ≡ cut least → mine ≡ least → label ≡ cut mine
+cut_under label least mine is same = omega arith
+
+cut_keeps : (label least other : ℕ) → label ≡ cut least → least ≤ other → label ≤ cut other
+cut_keeps label least other is low = omega arith
+
+pub least_entries : LeastCostsAreEntries
+least_entries s n e least at is = record {
+  term = at.term;
+  reaches = at.reaches;
+  label = cut_under e.label least (cost s at.term) is at.costs;
+  lowest = λ x reaches. cut_keeps e.label least (cost s x) is (at.lowest x reaches);
 }

@@ -1,6 +1,7 @@
 -- The setting of a job, and which states and steps stand at its nodes. docs/MODEL.md, "States", tells it in prose.
 use Rattle.std.specs.Prelude.{◌≡◌, ℕ, ◌<◌, length, Option, Some, None}
 use Rattle.mq_base.specs.declared.ids.NodeId.{NodeId}
+use Rattle.mq_base.specs.declared.ids.TableId.{TableId}
 use Rattle.mq_base.specs.declared.plan.Step.{Step}
 use Rattle.mq_base.specs.declared.plan.Step.TheVariants as step
 use Rattle.mq_base.specs.declared.query.Query.{Query}
@@ -14,7 +15,7 @@ use Rattle.extended_plan.specs.declared.job.Job.{Job}
 use Rattle.extended_plan.specs.declared.state.State.{State}
 use Rattle.extended_plan.specs.Gains.{Gain}
 use Rattle.extended_plan.specs.Parts.{setting_by}
-use Rattle.extended_plan.specs.Setting.{Setting, kind_at, known_at}
+use Rattle.extended_plan.specs.Setting.{Setting, kind_at, known_at, leaf_of}
 
 -- the setting of a job
 abbrev pub setting_of : Job → Setting
@@ -34,6 +35,10 @@ told gain = (gain.state, cut gain.cost)
 pub record IsStateAt (s : Setting) (n : ℕ) (st : State) : Type 0 where
   pub known : st.holder.0 < length s.policy.subjects
   pub view : IsView (known_at s n) st.view
+
+-- a state at the leaf of a table
+abbrev pub IsLeafState : Setting → TableId → State → Type 0
+IsLeafState s t st = (n : ℕ) → leaf_of s t ≡ Some n → IsStateAt s n st
 
 -- a state at the operand of a node with one operand, and states at the operands of a node with two
 abbrev pub IsOperand : Setting → Kind → State → Type 0

@@ -1,7 +1,7 @@
 -- The laws of extended plans, over the setting of a job: what the state of one tells, how each step leads from states to a state,
 -- what closed labels bound, and that its spelling determines it. docs/MODEL.md, "Extended plans", "States", "Step lists" and
 -- "Certificate", tells them in prose.
-use Rattle.std.specs.Prelude.{◌≡◌, ℕ, ◌+◌, ◌≤◌, ◌<◌, ◌^◌, true, List, length, Option, Some, bit_or, option_map}
+use Rattle.std.specs.Prelude.{◌≡◌, ℕ, ◌+◌, ◌-◌, ◌≤◌, ◌<◌, ◌^◌, true, List, length, Option, Some, bit_or, option_map}
 use Rattle.mq_base.specs.declared.ids.NodeId.{NodeId}
 use Rattle.mq_base.specs.declared.plan.Step.{Step}
 use Rattle.cost_model.specs.Costs.{cut}
@@ -9,11 +9,11 @@ use Rattle.plan_algebra.specs.declared.kind.Kind.TheVariants as kind
 use Rattle.relation_profile.specs.View.{IsView}
 use Rattle.extended_plan.specs.declared.state.Entry.{Entry}
 use Rattle.extended_plan.specs.declared.state.State.{State}
-use Rattle.extended_plan.specs.Certificate.{AreLeastLabels, IsClosed, IsListed, ShowsLeast, ShowsNone}
+use Rattle.extended_plan.specs.Certificate.{AreLeastLabels, IsClosed, IsLeastEntry, IsListed, ShowsLeast, ShowsNone}
 use Rattle.extended_plan.specs.Gains.{Gain, dec_gain, enc_gain, leaf_gain, one_gain, send_gain, shown, two_gain}
 use Rattle.extended_plan.specs.Ready.{IsReady}
 use Rattle.extended_plan.specs.Setting.{Setting, kind_at, known_at, leaf_of}
-use Rattle.extended_plan.specs.States.{cost, state}
+use Rattle.extended_plan.specs.States.{IsLeast, cost, state}
 use Rattle.extended_plan.specs.Term.{Term, Leaf, Enc, Dec, Send, Un, Bin, node_of, spell}
 use Rattle.extended_plan.specs.Validity.{IsValid, StandsAt, profile, runnable}
 
@@ -113,6 +113,19 @@ NoneIsShown = (s : Setting) → IsReady s → (labels : List (List Entry)) → S
 -- the least costs of the states that are reached, cut, are closed labels
 abbrev pub LeastLabelsAreClosed : Type 0
 LeastLabelsAreClosed = (s : Setting) → IsReady s → (labels : List (List Entry)) → AreLeastLabels s labels → IsClosed s labels
+
+-- a label tells the least cost of its state: it is that cost, cut, and the cost itself below 2^128 - 1
+pub record TellsLeast (s : Setting) (n : ℕ) (e : Entry) : Type 0 where
+  pub cut_least : (least : ℕ) → IsLeast s n e.state least → e.label ≡ cut least
+  pub exact : e.label < 2 ^ 128 - 1 → IsLeast s n e.state e.label
+
+-- so does each entry that is least by its label; and a state with its least cost, cut, is such an entry
+abbrev pub EntriesTellLeast : Type 0
+EntriesTellLeast = (s : Setting) (n : ℕ) (e : Entry) → IsLeastEntry s n e → TellsLeast s n e
+
+abbrev pub LeastCostsAreEntries : Type 0
+LeastCostsAreEntries =
+    (s : Setting) (n : ℕ) (e : Entry) (least : ℕ) → IsLeast s n e.state least → e.label ≡ cut least → IsLeastEntry s n e
 
 -- a valid extended plan that costs no more than any other
 pub record IsLeastValid (s : Setting) (x : Term) : Type 0 where

@@ -1,6 +1,6 @@
 //! The laws of extended plans, for the layers that search, check and run them. Each is a call that takes nothing and does nothing.
 
-ghost use Rattle.extended_plan.specs.Laws.{ClosedLabelsBound, GainsAreTerms, LeastHasCertificate, LeastIsShown, LeastLabelsAreClosed, NoneHasCertificate, NoneIsShown, SpellingDetermines, TermsAreGained, TermsAreSeen};
+ghost use Rattle.extended_plan.specs.Laws.{ClosedLabelsBound, EntriesTellLeast, GainsAreTerms, LeastCostsAreEntries, LeastHasCertificate, LeastIsShown, LeastLabelsAreClosed, NoneHasCertificate, NoneIsShown, SpellingDetermines, TermsAreGained, TermsAreSeen};
 
 /// A runnable extended plan that gives a node is held by a subject of the policy; its view is one of the node, and stands there for its
 /// profile. docs/MODEL.md, "States".
@@ -38,6 +38,13 @@ pub fn none_is_shown()
 /// The least costs of the states that are reached, cut, are closed labels. docs/MODEL.md, "Certificate".
 pub fn least_labels_are_closed()
     ensures { LeastLabelsAreClosed }
+{}
+
+/// The label of an entry of such labels is the least cost of its state, cut; below 2^128 - 1 it is that cost. A state with its least
+/// cost, cut, is such an entry. docs/MODEL.md, "Certificate".
+pub fn entries_tell_least()
+    ensures tells { EntriesTellLeast }
+    ensures made { LeastCostsAreEntries }
 {}
 
 /// A least valid extended plan has a certificate, with those labels, where its cost is below 2^128. docs/MODEL.md, "Certificate".

@@ -1,7 +1,7 @@
 ghost use Rattle.std.specs.Prelude.{◌≡◌, ◌<◌, length, if◌then◌else◌, option_map, Some, None, IfSome, IsSome};
 ghost use Rattle.cost_model.specs.Costs.{cut, step_work};
 ghost use Rattle.extended_plan.specs.Gains.{leaf_gain, shown, step_gain};
-ghost use Rattle.extended_plan.specs.Job.{AreOperands, IsStateAt, IsStepAt, setting_of, told};
+ghost use Rattle.extended_plan.specs.Job.{AreOperands, IsLeafState, IsStateAt, IsStepAt, setting_of, told};
 ghost use Rattle.extended_plan.specs.Setting as setting;
 ghost use Rattle.extended_plan.specs.States.{state};
 ghost use Rattle.extended_plan.specs.Term.{Leaf};
@@ -19,7 +19,8 @@ use view_authority::check_view;
 /// a time that is linear in the nodes of the plan.
 pub fn leaf_state(job: &Job<'_>, t: TableId) -> Option<State>
     requires { IsSome (setting.leaf_of (setting_of job.now) t) }
-    ensures { result ≡ leaf_gain (setting_of job.now) t }
+    ensures answers { result ≡ leaf_gain (setting_of job.now) t }
+    ensures within { IfSome result (IsLeafState (setting_of job.now) t) }
 {
     let at = leaf_of(job, t)?;
     let node = NodeId(at as u8);
