@@ -1,7 +1,9 @@
 -- What the best goal of blocks that are done tells of all valid extended plans.
-use Rattle.std.proofs.Common.{◌≡◌, ℕ, ◌+◌, ◌-◌, ◌^◌, ◌≤◌, ◌<◌, List, length, Some, None, ◌∙◌, ap, arith, min}
+use Rattle.std.proofs.Common.{◌≡◌, ℕ, ◌+◌, ◌-◌, ◌^◌, ◌≤◌, ◌<◌, List, length, Option, Some, None, ◌∙◌, ap, arith, min}
+use Rattle.std.proofs.Math.Path.{subst}
 use Rattle.mq_base.specs.declared.plan.Step.{Step}
 use Rattle.cost_model.specs.Costs.{cut}
+use Rattle.extended_plan.specs.declared.state.Entry.{Entry}
 use Rattle.extended_plan.specs.Certificate.{is_goal}
 use Rattle.extended_plan.specs.Ready.{IsReady}
 use Rattle.extended_plan.specs.Setting.{Setting, root}
@@ -11,11 +13,13 @@ use Rattle.extended_plan.specs.Validity.{IsValid}
 use Rattle.extended_plan.proofs.BoundLaws.{goal_valid, valid_goal}
 use Rattle.extended_plan.proofs.ViewLaws.{seen}
 use Rattle.assign_table.specs.declared.way.Settled.{Settled}
-use Rattle.assign_table.specs.Found.{CostsTooMuch, HasFew, IsLeastPlan, most_cost}
-use Rattle.assign_table.specs.inside.Blocks.{AreDone, IsAttainedAt, IsBestOf, IsGoalAt, base_of, start_of}
+use Rattle.assign_table.specs.Found.{CostsTooMuch, HasFew, IsLeastPlan, IsNoneFound, IsPlanFound, most_cost}
+use Rattle.assign_table.specs.inside.Blocks.{AreDone, AreLabelsOf, IsAttainedAt, IsBestGoal, IsBestOf, IsGoalAt, base_of, start_of}
 use Rattle.assign_table.specs.inside.Ways.{AreStepsOf, LeadsWithin, settled_at}
 use Rattle.assign_table.proofs.BlockLaws.{bound}
 use Rattle.assign_table.proofs.CountLaws.{few_reached}
+use Rattle.assign_table.proofs.LabelLaws.{least_labels}
+use Rattle.assign_table.proofs.PlaceLaws.{starts_low}
 
 -- a plan has a root
 pub root_below : (s : Setting) → IsReady s → (x : Term) → IsValid s x → root s < length s.basis.nodes
@@ -113,3 +117,59 @@ best_dear s arena w best most = record {
 pub few_at_root : (s : Setting) → IsReady s → (arena : List Settled) (starts : List ℕ) → root s < length s.basis.nodes
     → AreDone s arena starts (length s.basis.nodes) → HasFew s
 few_at_root s ready arena starts below done many = few_reached s ready arena starts (length s.basis.nodes) (root s) done below many
+
+-- the block of the root is the last one
+pub best_root : (s : Setting) (arena : List Settled) (starts : List ℕ) (count : ℕ) (best : Option ℕ) → count ≡ length s.basis.nodes → 1 ≤ count
+    → IsBestGoal s arena (start_of starts (count - 1)) (start_of starts count) best → IsBestOf s arena starts best
+best_root s arena starts count best same some is =
+    let last : count ≡ root s + 1 = omega (arith, same, some) in
+    subst (λ i. IsBestGoal s arena (start_of starts (root s)) (start_of starts i) best) last
+    (subst (λ i. IsBestGoal s arena (start_of starts (i - 1)) (start_of starts count) best) same is)
+
+-- what a search answers when the states of all nodes are settled
+module _ (s : Setting) (ready : IsReady s) (arena : List Settled) (starts : List ℕ) (done : AreDone s arena starts (length s.basis.nodes)) where
+  -- the best goal stands in the arena
+  pub best_inside : (w : ℕ) → root s < length s.basis.nodes → IsBestOf s arena starts (Some w) → w < length arena
+  best_inside w below best =
+      omega (arith, best.0.0.high, starts_low arena starts (length s.basis.nodes) done.blocks (root s + 1) (omega (arith, below)))
+
+  -- there is no goal
+  pub none_found : (labels : List (List Entry)) → IsBestOf s arena starts None → AreLabelsOf arena starts (length s.basis.nodes) labels
+      → IsNoneFound s labels
+  none_found labels none are = record {
+    none = none_valid s ready arena starts done none;
+    labelled = least_labels s ready arena starts labels done are;
+  }
+
+  -- the best goal's way can be told
+  pub leads_found : (w : ℕ) → root s < length s.basis.nodes → IsBestOf s arena starts (Some w) → LeadsWithin arena (settled_at arena w).way 200000
+  leads_found w below best =
+      best_leads s arena w (best_inside w below best) done.few (best_plan s ready arena starts w below done best)
+
+  -- its label is no more than the largest cost
+  pub label_found : (w : ℕ) → root s < length s.basis.nodes → IsBestOf s arena starts (Some w) → (settled_at arena w).label ≤ most_cost
+  label_found w below best =
+      let plan : IsBestPlan s arena w = best_plan s ready arena starts w below done best in
+      at_most (settled_at arena w).label (cost s plan.attained.term) (2 ^ 128 - 1) plan.attained.costs
+    where
+      at_most : (label whole top : ℕ) → label ≡ min whole top → label ≤ top
+      at_most label whole top is = omega arith
+
+  -- where it is less, it is a cost
+  pub plan_found : (w : ℕ) (steps : List Step) (labels : List (List Entry)) → root s < length s.basis.nodes → IsBestOf s arena starts (Some w)
+      → (settled_at arena w).label < most_cost → AreStepsOf arena (settled_at arena w).way steps
+      → AreLabelsOf arena starts (length s.basis.nodes) labels
+      → IsPlanFound s steps (settled_at arena w).label labels
+  plan_found w steps labels below best less are listed =
+      let plan : IsBestPlan s arena w = best_plan s ready arena starts w below done best in
+      record {
+        plan = best_least s arena w steps plan less are;
+        exact = less;
+        few = best_few s arena w steps (best_inside w below best) done.few plan are;
+        labelled = least_labels s ready arena starts labels done listed;
+      }
+
+  -- its label is the largest cost, and so it may cost more
+  pub dear_found : (w : ℕ) → root s < length s.basis.nodes → IsBestOf s arena starts (Some w) → most_cost ≤ (settled_at arena w).label
+      → CostsTooMuch s
+  dear_found w below best most = best_dear s arena w (best_plan s ready arena starts w below done best) most

@@ -1,8 +1,8 @@
 -- The labels of blocks that are done are the least ones.
-use Rattle.std.proofs.Common.{◌≡◌, ℕ, zero, suc, ◌+◌, ◌≤◌, ◌<◌, Bool, true, false, List, [], ◌∷◌, length, Some, if◌then◌else◌, ◌⊎◌, inl, inr, refl, sym, ◌∙◌, ap, arith, All}
+use Rattle.std.proofs.Common.{◌≡◌, ℕ, zero, suc, ◌+◌, ◌≤◌, ◌<◌, Bool, true, false, List, [], ◌∷◌, ◌++◌, length, Some, if◌then◌else◌, ◌⊎◌, inl, inr, refl, sym, ◌∙◌, ap, arith, All}
 use Rattle.std.specs.List.{Contains}
 use Rattle.std.specs.declared.cmp.Ordering.TheVariants.{Less, Equal}
-use Rattle.std.proofs.lemmas.List.{get_or_past}
+use Rattle.std.proofs.lemmas.List.{get_or_append_left, get_or_past, get_or_push, length-append}
 use Rattle.std.proofs.lemmas.List.Elements.{All-nil, Contains-get_or}
 use Rattle.std.proofs.lemmas.List.Sorted.{Contains-permutation, IsPermutation-sym}
 use Rattle.std.proofs.Math.Path.{subst}
@@ -17,7 +17,7 @@ use Rattle.extended_plan.specs.States.{IsReached, cost, state_eq}
 use Rattle.extended_plan.proofs.EntryLaws.{same_state, state_eq-itself}
 use Rattle.extended_plan.proofs.ViewLaws.{seen}
 use Rattle.assign_table.specs.declared.way.Settled.{Settled}
-use Rattle.assign_table.specs.inside.Blocks.{AreDone, AreLabelsOf, IsAttainedAt, IsPlaceOf, base_of, entry_of, start_of}
+use Rattle.assign_table.specs.inside.Blocks.{AreDone, AreEntriesOf, AreLabelsOf, IsAttainedAt, IsPlaceOf, base_of, entry_of, start_of}
 use Rattle.assign_table.specs.inside.Ways.{settled_at}
 use Rattle.assign_table.proofs.BlockLaws.{bound}
 use Rattle.assign_table.proofs.PlaceLaws.{range-Contains, range-place, starts_low}
@@ -125,3 +125,27 @@ least_labels s ready arena starts labels done are = record {
               ap (label_of (entries_at labels m)) (sym (there.same ∙ reached.reaches.arrives))
               ∙ label-listed (entries_at labels m) e (are.node m below).ascending here;
         }
+
+-- the labels of the blocks so far, as they are made: of none, and of one node more
+pub labels_none : (arena : List Settled) (starts : List ℕ) → AreLabelsOf arena starts 0 []
+labels_none arena starts = record { each = refl; node = λ m below. absurd (omega (arith, below)) }
+
+pub labels_more : (arena : List Settled) (starts : List ℕ) (n : ℕ) (labels : List (List Entry)) (entries : List Entry) → AreLabelsOf arena starts n labels
+    → AreEntriesOf arena (start_of starts n) (start_of starts (n + 1)) entries → AreLabelsOf arena starts (n + 1) (labels ++ entries ∷ [])
+labels_more arena starts n labels entries are here = record {
+  each = length-append labels (entries ∷ []) ∙ ap (λ k. k + 1) are.each;
+  node = λ m below. each m (or_last m n below);
+}
+  where
+    or_last : (m n : ℕ) → m < n + 1 → (m < n) ⊎ (m ≡ n)
+    or_last m n below = grind arith
+
+    last : AreEntriesOf arena (start_of starts n) (start_of starts (n + 1)) (entries_at (labels ++ entries ∷ []) n)
+    last = subst (AreEntriesOf arena (start_of starts n) (start_of starts (n + 1))) (sym (get_or_push labels entries [] n are.each)) here
+
+    each : (m : ℕ) → (m < n) ⊎ (m ≡ n) → AreEntriesOf arena (start_of starts m) (start_of starts (m + 1)) (entries_at (labels ++ entries ∷ []) m)
+    each m (inl before) =
+        subst (AreEntriesOf arena (start_of starts m) (start_of starts (m + 1)))
+        (sym (get_or_append_left labels (entries ∷ []) [] m (omega (arith, are.each, before)))) (are.node m before)
+    each m (inr is) =
+        subst (λ k. AreEntriesOf arena (start_of starts k) (start_of starts (k + 1)) (entries_at (labels ++ entries ∷ []) k)) (sym is) last

@@ -17,3 +17,6 @@ pub mod OrderLaws
 pub mod SettleLaws
 pub mod GainLaws
 pub mod TurnLaws
+pub mod DoneLaws
+pub mod ArriveLaws
+pub mod ClassLaws

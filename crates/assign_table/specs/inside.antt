@@ -5,3 +5,4 @@ pub mod Ways
 pub mod Sheet
 pub mod Order
 pub mod Settling
+pub mod Arrivals

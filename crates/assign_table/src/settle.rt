@@ -174,8 +174,8 @@ fn offer_step(
     }
 }
 
-// The label after a step, cut at 2^128 - 1. It is no lower.
-fn label_after(label: u128, cost: u128) -> u128
+/// The label after a step, cut at 2^128 - 1. It is no lower.
+pub fn label_after(label: u128, cost: u128) -> u128
     ensures sum { result ≡ cut (label + cost) }
     ensures no_lower { label ≤ result }
 {

@@ -1,6 +1,7 @@
 use crate::way::{Settled, Way};
 use extended_plan::State;
 use indexmap::IndexMap;
+use mq_base::NoMemory;
 use std::alloc::{AllocError, AllocFailed, Global};
 use std::cmp::Reverse;
 use std::collections::BinaryHeap;
@@ -46,6 +47,17 @@ impl<T: Drop> From<AllocFailed<T>> for TableNo {
     ghost from_gives = { λ _ e. e ≡ NoMemory };
 
     fn from(_refused: AllocFailed<T>) -> TableNo {
+        TableNo::NoMemory
+    }
+}
+
+impl From<NoMemory> for TableNo {
+    ghost use Rattle.std.specs.Prelude.{◌≡◌};
+    ghost use Rattle.assign_table.specs.declared.table.TableNo.TheVariants.{NoMemory};
+
+    ghost from_gives = { λ _ e. e ≡ NoMemory };
+
+    fn from(_refused: NoMemory) -> TableNo {
         TableNo::NoMemory
     }
 }
