@@ -25,12 +25,12 @@ use Rattle.provider_engine.specs.Typed.{AreTyped, HasByteBound, HasByteConstant,
 
 -- ---- what holds of each operation of a tree
 
-abbrev EachOp : (PlanOp → Type 0) → Tree → Type 0
+abbrev pub EachOp : (PlanOp → Type 0) → Tree → Type 0
 EachOp P (Leaf t used) = P (op.Base t used)
 EachOp P (One o x) = EachOp P x × P o
 EachOp P (Two o x y) = EachOp P x × EachOp P y × P o
 
-each_node : (P : PlanOp → Type 0) (x : Tree) (i : ℕ) → EachOp P x → AllByRecursion (λ (node : PlanNode). P node.op) (nodes_of i x)
+pub each_node : (P : PlanOp → Type 0) (x : Tree) (i : ℕ) → EachOp P x → AllByRecursion (λ (node : PlanNode). P node.op) (nodes_of i x)
 each_node P (Leaf t used) i all = (all, tt)
 each_node P (One o x) i all =
     each_append (λ (node : PlanNode). P node.op) (nodes_of i x) (one_node o (last_of i x) ∷ []) (each_node P x i all.0) (all.1, tt)
@@ -41,11 +41,11 @@ each_node P (Two o x y) i all =
     (each_node P y (i + size x) all.1))
     (all.2, tt)
 
-each_over : (P : PlanOp → Type 0) (ops : List PlanOp) (x : Tree) → AllByRecursion P ops → EachOp P x → EachOp P (over ops x)
+pub each_over : (P : PlanOp → Type 0) (ops : List PlanOp) (x : Tree) → AllByRecursion P ops → EachOp P x → EachOp P (over ops x)
 each_over P [] x all below = below
 each_over P (o ∷ rest) x all below = each_over P rest (One o x) all.1 (below, all.0)
 
-at_place : {X : Type 0} (P : X → Type 0) (xs : List X) (n : ℕ) (d : X) → AllByRecursion P xs → n < length xs → P (get_or xs n d)
+pub at_place : {X : Type 0} (P : X → Type 0) (xs : List X) (n : ℕ) (d : X) → AllByRecursion P xs → n < length xs → P (get_or xs n d)
 at_place P [] n d all inside = absurd (omega (arith, inside))
 at_place P (x ∷ xs) zero d all inside = all.0
 at_place P (x ∷ xs) (suc n) d all inside = at_place P xs n d all.1 (omega (arith, inside))

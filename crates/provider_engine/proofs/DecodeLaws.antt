@@ -71,11 +71,11 @@ dec_opened a p sealed = rw sealed (record {
 
 -- ---- the run
 
-abbrev frame_of : Setting → List (List ℕ) → Frame
+abbrev pub frame_of : Setting → List (List ℕ) → Frame
 frame_of s keys = record { schema = s.policy.schema; clusters = s.basis.clusters; keys = keys }
 
 -- the run of a term from a place on tells the values of the rows of a tree
-abbrev RunTells : Setting → List (List ℕ) → Contents → ℕ → Term → Tree → Type 0
+abbrev pub RunTells : Setting → List (List ℕ) → Contents → ℕ → Term → Tree → Type 0
 RunTells s keys contents start y t =
     AreLike (Tells (frame_of s keys) (has_group t) (profile s y)) (enc_run s (seals_of s.basis.clusters keys) contents start y)
     (sem value_tests contents t)
@@ -154,16 +154,16 @@ enc_tells s keys contents n start a x to tells =
     (start + length (spell x)) (enc_sealed a.0 (profile s x) (both _ _ to.runs).1) (place_fits start (step.Enc a) x (Enc a x) refl to.few)
     _ _ (rows_fit s keys contents n start x to.narrow tells) tells
 
-un_tells : (s : Setting) (keys : List (List ℕ)) (contents : Contents) → IsRun s keys contents → (start : ℕ) (m k : NodeId) (x : Term)
-    → kind_at s m.0 ≡ kind.One k → node_of s x ≡ Some k.0 → IsRunTo s contents m.0 start (Un m x)
+-- a unary operation on a run that tells its operand's rows tells its node's rows
+pub un_tells : (s : Setting) (keys : List (List ℕ)) (contents : Contents) → IsRun s keys contents → (start : ℕ) (m k : NodeId) (x : Term)
+    → kind_at s m.0 ≡ kind.One k → node_of s x ≡ Some k.0 → runnable s (Un m x) ≡ true → NoneIsWide contents (tree_of_node s.basis.nodes k.0)
     → RunTells s keys contents start x (tree_of_node s.basis.nodes k.0) → RunTells s keys contents start (Un m x) (tree_of_node s.basis.nodes m.0)
-un_tells s keys contents run start m k x is gives to tells =
+un_tells s keys contents run start m k x is gives runs narrow tells =
     subst (RunTells s keys contents start (Un m x)) (sym tree_is)
     (one_tells (frame_of s keys) run.few_attributes (op_at s m.0) (has_group (tree_of_node s.basis.nodes k.0)) (profile s x)
-    (split_of s run.ready k.0 x gives (both _ _ to.runs).0) (both _ _ to.runs).1 typed.1
+    (split_of s run.ready k.0 x gives (both _ _ runs).0) (both _ _ runs).1 typed.1
     (run.keyed m.0 (node_below s m.0 (kind.One k) is (λ e. cc))) typed.2 _ _
-    (rows_fit s keys contents k.0 start x (narrow_one contents (op_at s m.0) (tree_of_node s.basis.nodes k.0) (subst (NoneIsWide contents) tree_is to.narrow)) tells)
-    tells)
+    (rows_fit s keys contents k.0 start x narrow tells) tells)
   where
     tree_is : tree_of_node s.basis.nodes m.0 ≡ One (op_at s m.0) (tree_of_node s.basis.nodes k.0)
     tree_is = one_tree s run.ready m.0 k is
@@ -172,16 +172,17 @@ un_tells s keys contents run start m k x is gives to tells =
     typed = subst (IsTyped s.policy.schema) tree_is
         (tree_typed s run.ready run.typed m.0 (node_below s m.0 (kind.One k) is (λ e. cc)))
 
-bin_tells : (s : Setting) (keys : List (List ℕ)) (contents : Contents) → IsRun s keys contents → (start : ℕ) (m j k : NodeId) (x y : Term)
-    → kind_at s m.0 ≡ kind.Two j k → node_of s (Bin m x y) ≡ Some m.0 → IsRunTo s contents m.0 start (Bin m x y)
+-- a binary operation on two runs that tell their operands' rows tells its node's rows
+pub bin_tells : (s : Setting) (keys : List (List ℕ)) (contents : Contents) → IsRun s keys contents → (start : ℕ) (m j k : NodeId) (x y : Term)
+    → kind_at s m.0 ≡ kind.Two j k → node_of s (Bin m x y) ≡ Some m.0 → runnable s (Bin m x y) ≡ true
     → RunTells s keys contents start x (tree_of_node s.basis.nodes j.0)
     → RunTells s keys contents (start + length (spell x)) y (tree_of_node s.basis.nodes k.0)
     → RunTells s keys contents start (Bin m x y) (tree_of_node s.basis.nodes m.0)
-bin_tells s keys contents run start m j k x y is gives to left right =
+bin_tells s keys contents run start m j k x y is gives runs left right =
     subst (RunTells s keys contents start (Bin m x y)) (sym tree_is)
     (two_tells (frame_of s keys) (op_at s m.0) (has_group (tree_of_node s.basis.nodes j.0)) (has_group (tree_of_node s.basis.nodes k.0))
-    (profile s x) (profile s y) (split_of s run.ready m.0 (Bin m x y) gives to.runs)
-    (both ((holder s x).0 == (holder s y).0) _ (both (runnable s y) _ (both (runnable s x) _ to.runs).1).1).1 typed.2
+    (profile s x) (profile s y) (split_of s run.ready m.0 (Bin m x y) gives runs)
+    (both ((holder s x).0 == (holder s y).0) _ (both (runnable s y) _ (both (runnable s x) _ runs).1).1).1 typed.2
     (run.keyed m.0 (node_below s m.0 (kind.Two j k) is (λ e. cc))) _ _ _ _ left right)
   where
     tree_is : tree_of_node s.basis.nodes m.0 ≡ Two (op_at s m.0) (tree_of_node s.basis.nodes j.0) (tree_of_node s.basis.nodes k.0)
@@ -212,7 +213,8 @@ right_to s contents start m x y o j k gives is to = record {
   narrow = narrow_right contents o (tree_of_node s.basis.nodes j) (tree_of_node s.basis.nodes k) (subst (NoneIsWide contents) is to.narrow);
 }
 
-run_tells : (s : Setting) (keys : List (List ℕ)) (contents : Contents) → IsRun s keys contents → (y : Term) (n start : ℕ)
+-- a run to a node tells its rows
+pub run_tells : (s : Setting) (keys : List (List ℕ)) (contents : Contents) → IsRun s keys contents → (y : Term) (n start : ℕ)
     → IsRunTo s contents n start y → RunTells s keys contents start y (tree_of_node s.basis.nodes n)
 run_tells s keys contents run (Leaf t) n start to = leaf_run s keys contents run n start t to
 run_tells s keys contents run (Enc a x) n start to =
@@ -229,14 +231,14 @@ run_tells s keys contents run (Un m x) n start to =
     let below = one_to s contents m.0 start m x (op_at s m.0) on.1.operand.0 on.1.gives (one_tree s run.ready m.0 on.1.operand on.1.kind) refl
     (subst (λ i. IsRunTo s contents i start (Un m x)) (sym on.0) to) in
     subst (λ i. RunTells s keys contents start (Un m x) (tree_of_node s.basis.nodes i)) on.0
-    (un_tells s keys contents run start m on.1.operand x on.1.kind on.1.gives (subst (λ i. IsRunTo s contents i start (Un m x)) (sym on.0) to)
+    (un_tells s keys contents run start m on.1.operand x on.1.kind on.1.gives to.runs below.narrow
     (run_tells s keys contents run x on.1.operand.0 start below))
 run_tells s keys contents run (Bin m x y) n start to =
     let on = two_operands s m n x y to.gives in
     let here = subst (λ i. IsRunTo s contents i start (Bin m x y)) (sym on.0) to in
     let tree_is = two_tree s run.ready m.0 on.1.left_operand on.1.right_operand on.1.kind in
     subst (λ i. RunTells s keys contents start (Bin m x y) (tree_of_node s.basis.nodes i)) on.0
-    (bin_tells s keys contents run start m on.1.left_operand on.1.right_operand x y on.1.kind here.gives here
+    (bin_tells s keys contents run start m on.1.left_operand on.1.right_operand x y on.1.kind here.gives here.runs
     (run_tells s keys contents run x on.1.left_operand.0 start
     (left_to s contents start m x y (op_at s m.0) on.1.left_operand.0 on.1.right_operand.0 on.1.left_gives tree_is here))
     (run_tells s keys contents run y on.1.right_operand.0 (start + length (spell x))

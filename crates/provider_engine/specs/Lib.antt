@@ -6,3 +6,8 @@ pub mod Wide
 pub mod Decoding
 pub mod Agreement
 pub mod Subterms
+pub mod Columns
+pub mod Held
+pub mod OfJob
+pub mod Steps
+pub mod inside

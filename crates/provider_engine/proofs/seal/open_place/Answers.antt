@@ -1,0 +1,13 @@
+use Rattle.std.proofs.Common.{sym, ◌∙◌, arith}
+use Rattle.provider_engine.proofs.SealRows.{put_back, put_opened}
+use Rattle.provider_engine.proofs.seal.open_place.Goals as goal
+
+pub returns-in-Ok-clause-opened : goal.returns-in-Ok-clause-opened
+returns-in-Ok-clause-opened c =
+    put_opened c.args.key.now c.args.columns.now c.from-at.result c.args.a.0 c.index-columns-at.result c.take.new.self c.in-Some.column
+    c.in-Ok.made c.from-at.ensures (omega arith) c.index-columns-at.is (c.in-Some.ensures.value ∙ sym c.index-columns-at.is) c.in-Ok.ensures.opened
+
+pub returns-in-Err-clause-unchanged : goal.returns-in-Err-clause-unchanged
+returns-in-Err-clause-unchanged c =
+    put_back c.args.columns.now c.from-at.result c.args.a.0 c.index-columns-at.result c.take.new.self c.in-Some.column c.in-Err.column
+    c.from-at.ensures (omega arith) c.index-columns-at.is (c.in-Some.ensures.value ∙ sym c.index-columns-at.is) c.in-Err.ensures.back
