@@ -1,0 +1,14 @@
+pub mod PileLaws
+pub mod OrderLaws
+pub mod ShownLaws
+pub mod GoesLaws
+pub mod StateLaws
+pub mod OneLaws
+pub mod TwoLaws
+pub mod BaseLaws
+pub mod TableLaws
+pub mod SmallLaws
+pub mod ContentLaws
+pub mod ReadLaws
+pub mod RunLaws
+pub mod StepLaws

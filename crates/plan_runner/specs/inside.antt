@@ -1,0 +1,6 @@
+pub mod Given
+pub mod Made
+pub mod Order
+pub mod Stack
+pub mod UnderWay
+pub mod Shown
