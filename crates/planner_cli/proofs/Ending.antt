@@ -1,108 +1,76 @@
--- The end of a command `run`, from its sound task.
-use Rattle.std.proofs.Common.{◌≡◌, ℕ, ◌<◌, ◌≤◌, ◌==◌, ◌&&◌, ◌∷◌, ◌++◌, not, Bool, true, false, List, [], length, get_or, Option, Some, None, refl, sym, ap, ◌∙◌, subst, arith}
-use Rattle.std.specs.Prelude.{All, slice_get, option_map, filter_map}
-use Rattle.std.specs.Option.{option_map_or}
-use Rattle.std.specs.List.{list_any}
-use Rattle.std.proofs.lemmas.Bool.Decides.{nat_tests}
-use Rattle.std.proofs.lemmas.Option.{slice_get_within}
-use Rattle.std.proofs.lemmas.List.Elements.{All-nil, All-cons, All-head, All-tail, All-weaker}
-use Rattle.mq_base.specs.declared.ids.AttrId.{AttrId}
-use Rattle.mq_base.specs.declared.ids.TableId.{TableId}
-use Rattle.mq_base.specs.declared.query.Item.{Item}
-use Rattle.mq_base.specs.declared.query.Item.TheVariants as item
+-- The end of a command `run`, from what the search and the run of a plan answer.
+use Rattle.std.proofs.Common.{◌≡◌, ℕ, ◌<◌, List, [], ◌++◌, Result, Ok, Err, IfOk, refl, ap, ◌∙◌, subst}
+use Rattle.assign_table.specs.Found.{HasFew, IsLeastPlan, most_cost}
+use Rattle.extended_plan.specs.declared.job.Job.{Job}
+use Rattle.extended_plan.specs.Job.{IsJobOf, setting_of}
+use Rattle.extended_plan.specs.Parts.{AreClustersOf, AreEstimatesOf, IsPlanOf, setting_by}
+use Rattle.extended_plan.specs.Setting.{Setting}
+use Rattle.mq_base.specs.declared.ids.NodeId.{NodeId}
+use Rattle.mq_base.specs.declared.memory.NoMemory.{NoMemory}
+use Rattle.mq_base.specs.declared.plan.Step.{Step}
 use Rattle.mq_base.specs.declared.query.Query.{Query}
-use Rattle.mq_base.specs.declared.schema.AttrInfo.{AttrInfo}
-use Rattle.mq_base.specs.declared.schema.Schema.{Schema}
 use Rattle.mq_base.specs.declared.table.PlainTable.{PlainTable}
-use Rattle.mq_base.specs.BoundQuery.{IsBareItem, IsBare, IsBareOrGrouped}
-use Rattle.mq_base.specs.Nodes.{is_of_some}
-use Rattle.policy_reader.specs.Accepted.{plain_of}
+use Rattle.mq_base.specs.declared.value.Value.{Value}
+use Rattle.plan_runner.specs.Running.{IsFirstWide, IsNarrow}
+use Rattle.policy_reader.specs.declared.policy.Policy.{Policy}
+use Rattle.price_reader.specs.declared.prices.Prices.{Prices}
+use Rattle.row_algebra.specs.Contents.{contents_of}
+use Rattle.row_algebra.specs.Meaning.{query_rows}
+use Rattle.planner_cli.specs.declared.ends.End.{End}
+use Rattle.planner_cli.specs.declared.status.Status.{Status}
 use Rattle.planner_cli.specs.declared.status.Status.TheVariants as status
 use Rattle.planner_cli.specs.declared.task.RunTask.{RunTask}
-use Rattle.planner_cli.specs.Ends.{RunEnds, planned, unplanned}
-use Rattle.planner_cli.specs.inside.Loading.{IsSoundRun}
-use Rattle.planner_cli.specs.Report.{may_see, plan_part, answer_part, report_of, report, none_report}
-use Rattle.planner_cli.specs.Selection.{is_plain, selected_attribute, selected_attributes}
+use Rattle.planner_cli.specs.Answer.{answer_under}
+use Rattle.planner_cli.specs.Ends.{EndsUnder, IsSettingOf, RunEnds, planned, wide}
+use Rattle.planner_cli.specs.Names.{item_names}
+use Rattle.planner_cli.specs.PlanLine.{plan_line}
+use Rattle.planner_cli.specs.Report.{cost_line}
 
--- a query that is answered is of one table and has no group
-plain_parts : (q : Query) → is_plain q ≡ true → (length q.tables ≡ 1) × (q.grouped ≡ false)
-plain_parts q is = by_tests (length q.tables == 1) refl (length q.conds == 0) q.grouped refl is
-  where
-    by_tests : (one : Bool) → (length q.tables == 1) ≡ one → (none grouped : Bool) → q.grouped ≡ grouped
-        → (one && none && not grouped) ≡ true → (length q.tables ≡ 1) × (q.grouped ≡ false)
-    by_tests true here true false there is = (grind (arith, nat_tests), there)
-    by_tests true here true true there is = cc
-    by_tests true here false grouped there is = cc
-    by_tests false here none grouped there is = cc
+-- a least plan was run to its end, and its rows are written
+pub ends_planned : (s : Setting) (q : Query) (tables : List PlainTable) (steps : List Step) (least : ℕ) (rows : List (List Value)) (text : List ℕ)
+    → IsLeastPlan s steps least → least < most_cost → HasFew s → IsNarrow s (contents_of s.policy.schema tables)
+    → rows ≡ query_rows (contents_of s.policy.schema tables) q
+    → text ≡ cost_line least ++ plan_line s.policy steps ++ answer_under (item_names s.policy.schema q.items) rows
+    → EndsUnder s q tables status.Done text
+ends_planned s q tables steps least rows text plan within few narrow rows_are text_is =
+    planned steps least (record { plan = plan; within = within; few = few; narrow = narrow }) refl
+    (text_is ∙ ap (λ (rs : List (List Value)). cost_line least ++ plan_line s.policy steps ++ answer_under (item_names s.policy.schema q.items) rs)
+    rows_are)
 
--- an attribute of some table is one of the schema
-abbrev owned : Option ℕ → List TableId → Bool
-owned owner tables = list_any (λ (t : TableId). option_map_or (λ o. o == t.0) owner false) tables
+-- a least plan was not run, since a node has too many rows
+pub ends_wide : (s : Setting) (q : Query) (tables : List PlainTable) (steps : List Step) (least : ℕ) (n : NodeId) (end : Status) (text : List ℕ)
+    → IsLeastPlan s steps least → least < most_cost → HasFew s → IsFirstWide s (contents_of s.policy.schema tables) n.0
+    → end ≡ status.RowRange n → text ≡ [] → EndsUnder s q tables end text
+ends_wide s q tables steps least n end text plan within few first is text_is =
+    wide n (record {
+      term = plan.term;
+      valid = plan.valid;
+      within = rw plan.costs within;
+      few = few;
+      wide = first;
+    }) is text_is
 
-unowned : (tables : List TableId) → owned None tables ≡ false
-unowned [] = refl
-unowned (t ∷ tables) = unowned tables
+-- the job of a task has its setting
+job_setting : (t : RunTask) (job : Job) → IsJobOf t.policy t.prices t.query job → IsSettingOf t (setting_of job)
+job_setting t job is = record {
+  facts = job.facts;
+  clusters = job.clusters;
+  estimates = job.estimates;
+  made = ap (λ (p : Policy). setting_by p job.prices.now job.facts job.clusters job.estimates) is.policy
+      ∙ ap (λ (stated : Prices). setting_by t.policy stated job.facts job.clusters job.estimates) is.prices;
+  planned = subst (λ (q : Query). IsPlanOf t.policy q job.facts) is.query
+      (subst (λ (p : Policy). IsPlanOf p job.query.now job.facts) is.policy job.planned);
+  clustered = subst (λ (p : Policy). AreClustersOf p job.facts job.clusters) is.policy job.clustered;
+  estimated = subst (λ (stated : Prices). AreEstimatesOf stated job.facts job.estimates) is.prices job.estimated;
+}
 
-is_attribute : (schema : Schema) (tables : List TableId) (a : AttrId) → is_of_some schema tables a ≡ true → a.0 < length schema.attrs
-is_attribute schema tables a used = by_info (slice_get schema.attrs a.0) refl used
-  where
-    by_info : (info : Option AttrInfo) → slice_get schema.attrs a.0 ≡ info
-        → owned (option_map (λ (i : AttrInfo). i.table.0) info) tables ≡ true → a.0 < length schema.attrs
-    by_info None here used = absurd (let none : owned None tables ≡ false = unowned tables in cc)
-    by_info (Some info) here used = slice_get_within schema.attrs a.0 info here
-
-abbrev IsAttribute : Schema → AttrId → Type 0
-IsAttribute schema a = a.0 < length schema.attrs
-
-items_placed : (schema : Schema) (q : Query) (items : List Item) → All (IsBareItem schema q) items
-    → All (IsAttribute schema) (filter_map selected_attribute items)
-items_placed schema q [] all = All-nil (IsAttribute schema)
-items_placed schema q (item.Attr a ∷ rest) all =
-    All-cons (IsAttribute schema) a (filter_map selected_attribute rest)
-    (is_attribute schema q.tables a (All-head (IsBareItem schema q) (item.Attr a) rest all))
-    (items_placed schema q rest (All-tail (IsBareItem schema q) (item.Attr a) rest all))
-items_placed schema q (item.Count ∷ rest) all = absurd (All-head (IsBareItem schema q) item.Count rest all)
-
-bare_if : (schema : Schema) (q : Query) → q.grouped ≡ false → IsBareOrGrouped q.grouped schema q → IsBare schema q
-bare_if schema q bare selected = subst (λ (g : Bool). IsBareOrGrouped g schema q) bare selected
-
--- the selected attributes are those of the schema
-pub columns_placed : (t : RunTask) → IsSoundRun t → (columns : List AttrId) → columns ≡ selected_attributes t.query
-    → All (λ (a : AttrId). a.0 < length t.policy.schema.attrs) columns
-columns_placed t sound columns is =
-    subst (λ (cs : List AttrId). All (IsAttribute t.policy.schema) cs) (sym is)
-    (items_placed t.policy.schema t.query t.query.items (bare_if t.policy.schema t.query (plain_parts t.query sound.plain).1 sound.query.selected).items)
-
--- an accepted policy has at most 64 attributes
-pub columns_small : (t : RunTask) → IsSoundRun t → (columns : List AttrId) → columns ≡ selected_attributes t.query
-    → All (λ (a : AttrId). a.0 < 64) columns
-columns_small t sound columns is =
-    All-weaker (IsAttribute t.policy.schema) (λ (a : AttrId). a.0 < 64)
-    (λ a below. let few : length t.policy.schema.attrs ≤ 64 = sound.policy.schema.few_attributes in omega arith)
-    columns (columns_placed t sound columns is)
-
--- the one item of a list
-pub only_at : {X : Type 0} (xs : List X) (d : X) → length xs ≡ 1 → xs ≡ get_or xs 0 d ∷ []
-only_at [] d one = absurd (omega arith)
-only_at (x ∷ []) d one = refl
-only_at (x ∷ y ∷ rest) d one = absurd (omega arith)
-
-pub one_table : (q : Query) → is_plain q ≡ true → length q.tables ≡ 1
-one_table q plain = (plain_parts q plain).0
-
-pub ends_none : (t : RunTask) (columns : List AttrId) (plain : ℕ) (text : List ℕ) → columns ≡ selected_attributes t.query
-    → plain ≡ plain_of t.policy t.policy.user.0 → may_see plain columns ≡ false → text ≡ none_report → RunEnds t status.NoPlan text
-ends_none t columns plain text is plain_is sees same =
-    unplanned (ap (λ (p : ℕ). may_see p (selected_attributes t.query)) (sym plain_is) ∙ (ap (may_see plain) (sym is) ∙ sees)) refl same
-
-pub ends_report : (t : RunTask) (sound : IsSoundRun t) (columns : List AttrId) (plain : ℕ) (table : TableId) (content : PlainTable) (text : List ℕ)
-    → columns ≡ selected_attributes t.query → plain ≡ plain_of t.policy t.policy.user.0 → may_see plain columns ≡ true
-    → t.query.tables ≡ table ∷ [] → content ≡ get_or t.tables 0 content
-    → text ≡ plan_part t.policy table ++ answer_part t.policy.schema columns table content → RunEnds t status.Done text
-unfolding report
-ends_report t sound columns plain table content text is plain_is sees table_is content_is same =
-    let contents : t.tables ≡ content ∷ [] =
-    only_at t.tables content (sound.tables ∙ one_table t.query sound.plain) ∙ ap (λ (x : PlainTable). x ∷ []) (sym content_is) in
-    planned (ap (λ (p : ℕ). may_see p (selected_attributes t.query)) (sym plain_is) ∙ (ap (may_see plain) (sym is) ∙ sees)) refl
-    (same ∙ (ap (λ (cs : List AttrId). plan_part t.policy table ++ answer_part t.policy.schema cs table content) is
-    ∙ sym (ap (λ (ts : List TableId). report_of t ts t.tables) table_is ∙ ap (λ (cs : List PlainTable). report_of t (table ∷ []) cs) contents)))
+-- what ends under the setting of the job ends the task
+pub job_ends : (t : RunTask) (job : Job) (answer : Result End NoMemory) → IsJobOf t.policy t.prices t.query job
+    → IfOk answer (λ (end : End). EndsUnder (setting_of job) job.query.now t.tables end.status end.text.items)
+    → IfOk answer (λ (end : End). RunEnds t end.status end.text.items)
+job_ends t job (Ok end) is ends = record {
+  setting = setting_of job;
+  is = job_setting t job is;
+  ends = subst (λ (q : Query). EndsUnder (setting_of job) q t.tables end.status end.text.items) is.query ends;
+}
+job_ends t job (Err wanting) is ends = tt

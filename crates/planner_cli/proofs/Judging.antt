@@ -14,9 +14,8 @@ use Rattle.planner_cli.specs.declared.load_no.LoadNo.{LoadNo}
 use Rattle.planner_cli.specs.declared.load_no.LoadNo.TheVariants.{Refused, Failed, NoMemory}
 use Rattle.planner_cli.specs.declared.status.FileRole.{FileRole}
 use Rattle.planner_cli.specs.declared.status.FileRole.TheVariants as role
-use Rattle.planner_cli.specs.Input.{fault_of, and_then, answered, text_bound, query_read}
+use Rattle.planner_cli.specs.Input.{fault_of, and_then, text_bound, query_read}
 use Rattle.planner_cli.specs.inside.Loading.{no_of, judged_as, Judges}
-use Rattle.planner_cli.specs.Selection.{is_plain}
 
 -- the refusals of a reader have numbers from 1 on: 0 is the number of a file that is too long
 abbrev pub AreNumbered : {E : Type 0} → (E → Option Refusal) → Type 0
@@ -75,7 +74,7 @@ unfolding query_read
 no_text schema bytes none = by_test (is_utf8 bytes) refl
   where
     by_test : (test : Bool) → is_utf8 bytes ≡ test
-        → cond test (and_then (text_bound schema bytes) answered) (Err (refusal bad_char (utf8_valid_len bytes) 0)) ≡ Err (refusal bad_char (utf8_valid_len bytes) 0)
+        → cond test (text_bound schema bytes) (Err (refusal bad_char (utf8_valid_len bytes) 0)) ≡ Err (refusal bad_char (utf8_valid_len bytes) 0)
     by_test true here = absurd (none (IsUtf8-from_is_utf8 bytes here))
     by_test false here = refl
 
@@ -84,21 +83,10 @@ pub no_text_stops : (schema : Schema) (bytes : List ℕ) → (IsUtf8 bytes → �
 no_text_stops schema bytes none = (refusal bad_char (utf8_valid_len bytes) 0, omega arith, refl, no_text schema bytes none)
 
 -- bytes that are a text are read as it
-text_read : (schema : Schema) (bytes : List ℕ) → IsUtf8 bytes → query_read schema bytes ≡ and_then (text_bound schema bytes) answered
+text_read : (schema : Schema) (bytes : List ℕ) → IsUtf8 bytes → query_read schema bytes ≡ text_bound schema bytes
 unfolding query_read
 text_read schema bytes utf8 = rw (is_utf8-from_IsUtf8 bytes utf8) refl
 
-pub text_stops : (schema : Schema) (bytes text : List ℕ) (error : LoadNo) → IsUtf8 bytes → text ≡ bytes
-    → Judges {X = Query} role.Query (Err error) (text_bound schema text) → Judges {X = Query} role.Query (Err error) (query_read schema bytes)
-text_stops schema bytes text error utf8 same judges =
-    rw (text_read schema bytes utf8) (judged_on role.Query error (text_bound schema bytes) answered (rw same at judges))
-
-pub text_reads : (schema : Schema) (bytes text : List ℕ) (q : Query) (plain : Bool) → IsUtf8 bytes → text ≡ bytes
-    → text_bound schema text ≡ Ok q → is_plain q ≡ plain
-    → query_read schema bytes ≡ cond plain (Ok q) (Err (refusal 99 0 0))
-text_reads schema bytes text q plain utf8 same binds is =
-    text_read schema bytes utf8 ∙ (ap (λ o. and_then o answered) (rw same at binds) ∙ ap (λ (b : Bool). cond b (Ok q) (Err (refusal 99 0 0))) is)
-
-pub more_stops : (schema : Schema) (bytes : List ℕ) → query_read schema bytes ≡ Err (refusal 99 0 0)
-    → Judges {X = Query} role.Query (Err (Refused (fault_of role.Query (refusal 99 0 0)))) (query_read schema bytes)
-more_stops schema bytes is = (refusal 99 0 0, omega arith, refl, is)
+pub text_judges : (schema : Schema) (bytes text : List ℕ) (answer : Result Query LoadNo) → IsUtf8 bytes → text ≡ bytes
+    → Judges role.Query answer (text_bound schema text) → Judges role.Query answer (query_read schema bytes)
+text_judges schema bytes text answer utf8 same judges = rw (text_read schema bytes utf8) (rw same at judges)

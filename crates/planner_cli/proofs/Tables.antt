@@ -66,6 +66,13 @@ known_more before middle p tables i d contents content below follows known more 
     (λ lookup read next. tables_more p lookup (take i tables) t contents content read next) known
     (Knows-before before middle (role.Table t ∷ []) (λ lookup. table_input p t lookup ≡ Ok content) follows more))
 
+-- the tables so far are those of the contents so far, and the next one is that of the next content
+pub listed_more : (tables : List TableId) (i : ℕ) (d : TableId) (contents : List PlainTable) (content : PlainTable) → i < length tables
+    → map (λ (table : PlainTable). table.table) contents ≡ take i tables → content.table ≡ get_or tables i d
+    → map (λ (table : PlainTable). table.table) (contents ++ content ∷ []) ≡ take (i + 1) tables
+listed_more tables i d contents content below listed named =
+    map-append (λ (table : PlainTable). table.table) contents (content ∷ []) ∙ rw (listed, named) (sym (take_more tables i d below))
+
 split_at : (tables : List TableId) (i : ℕ) (d : TableId) → i < length tables
     → tables ≡ take i tables ++ get_or tables i d ∷ drop (i + 1) tables
 split_at tables i d below =

@@ -2,12 +2,15 @@
 use Rattle.std.proofs.Common.{◌≡◌, ◌≢◌, inl, inr, ℕ, ◌==◌, true, false, cond, bytes_eq, List, [], ◌∷◌, ◌++◌, map, Option, Some, None, Ok, Err, refl, sym, ap, ◌∙◌, subst, arith}
 use Rattle.std.specs.Prelude.{All}
 use Rattle.std.proofs.lemmas.Bool.Decides.{nat_tests}
-use Rattle.std.proofs.lemmas.List.{map-append}
+use Rattle.std.proofs.lemmas.List.{append-nil, map-append}
 use Rattle.std.proofs.lemmas.List.Elements.{All-nil, All-cons, All-head, All-tail}
 use Rattle.std.proofs.lemmas.Slice.Eq.{bytes_eq-Decides}
 use Rattle.base_laws.proofs.ListLaws.{All-first, All-second}
+use Rattle.extended_plan.specs.Setting.{Setting}
 use Rattle.mq_base.specs.BoundQuery.{AreDistinct}
-use Rattle.outside_io.specs.Outside.{Files, ShelfState, SinkState, IsAbsent, Rose, content_of}
+use Rattle.mq_base.specs.declared.query.Query.{Query}
+use Rattle.mq_base.specs.declared.table.PlainTable.{PlainTable}
+use Rattle.outside_io.specs.Outside.{Files, ShelfState, SinkState, IsAbsent, Rose, Appends, content_of}
 use Rattle.planner_cli.specs.declared.load_no.LoadNo.{LoadNo}
 use Rattle.planner_cli.specs.declared.load_no.LoadNo.TheVariants.{Refused, Failed, NoMemory}
 use Rattle.planner_cli.specs.declared.status.FileRole.{FileRole}
@@ -15,11 +18,11 @@ use Rattle.planner_cli.specs.declared.status.Status.{Status}
 use Rattle.planner_cli.specs.declared.status.Status.TheVariants as status
 use Rattle.planner_cli.specs.declared.task.Task.{Task}
 use Rattle.planner_cli.specs.declared.task.Task.TheVariants as task
-use Rattle.planner_cli.specs.Ends.{planned, unplanned, Ends, HaveOneStatus}
+use Rattle.planner_cli.specs.Ends.{EndsUnder, planned, unplanned, crowded, dear, wide, Ends}
 use Rattle.planner_cli.specs.Files.{Lookup, role_number, Agrees, hidden}
 use Rattle.planner_cli.specs.Input.{absent, refused, wrong_words, stopped, accepted, task_of, given, commanded, input_of}
 use Rattle.planner_cli.specs.inside.Loading.{Seen, Gives, AreHeld, AreApart, Knows, Loaded, status_of}
-use Rattle.planner_cli.specs.Run.{ForTask, AppendsEnd, AppendsCut, IsDue, is_end, IsUnread, Tells}
+use Rattle.planner_cli.specs.Run.{ForTask, AppendsEnd, AppendsCut, IsDue, is_end, is_silent, IsUnread, Tells}
 use Rattle.planner_cli.specs.Words.{Command, command_of}
 
 abbrev role_of : Seen → FileRole
@@ -203,9 +206,32 @@ tells_stopped words command shelf after sink (Failed file) is loaded =
     absent_in (Some files) lookup file name agrees gone = agrees file name ∙ gone
 tells_stopped words command shelf after sink NoMemory is loaded = tells_wanting words shelf after sink sink refl
 
+run_ends_end : (s : Setting) (q : Query) (tables : List PlainTable) (end : Status) (text : List ℕ) → EndsUnder s q tables end text → is_end end ≡ true
+run_ends_end s q tables end text (planned steps least found is same) = ap is_end is
+run_ends_end s q tables end text (unplanned none is same) = ap is_end is
+run_ends_end s q tables end text (crowded n many is same) = ap is_end is
+run_ends_end s q tables end text (dear costs is same) = ap is_end is
+run_ends_end s q tables end text (wide n full is same) = ap is_end is
+
 ends_end : (t : Task) (s : Status) (text : List ℕ) → Ends t s text → is_end s ≡ true
-ends_end (task.Run t) s text (planned allowed is same) = ap is_end is
-ends_end (task.Run t) s text (unplanned hidden_from is same) = ap is_end is
+ends_end (task.Run t) s text ends = run_ends_end ends.setting t.query t.tables s text ends.ends
+
+-- an end with which nothing is written has no text
+run_ends_silent : (s : Setting) (q : Query) (tables : List PlainTable) (end : Status) (text : List ℕ) → EndsUnder s q tables end text
+    → is_silent end ≡ true → text ≡ []
+run_ends_silent s q tables end text (planned steps least found is same) silent = absurd (let e : is_silent end ≡ false = ap is_silent is in cc)
+run_ends_silent s q tables end text (unplanned none is same) silent = absurd (let e : is_silent end ≡ false = ap is_silent is in cc)
+run_ends_silent s q tables end text (crowded n many is same) silent = same
+run_ends_silent s q tables end text (dear costs is same) silent = same
+run_ends_silent s q tables end text (wide n full is same) silent = same
+
+pub ends_silent : (t : Task) (s : Status) (text : List ℕ) → Ends t s text → is_silent s ≡ true → text ≡ []
+ends_silent (task.Run t) s text ends silent = run_ends_silent ends.setting t.query t.tables s text ends.ends silent
+
+-- nothing is written of an empty text
+pub appends_none : (written : Option (List ℕ)) → Appends written written []
+appends_none None = tt
+appends_none (Some bytes) = sym (append-nil bytes)
 
 -- the whole of a report was written
 pub tells_end : (words : List (List ℕ)) (command : Command) (shelf after : ShelfState) (sink sink_after : SinkState) (t : Task) (s : Status)
@@ -246,10 +272,3 @@ tells_cut words command shelf after sink sink_after t is loaded appends rose =
       wanting = λ same. absurd (cc);
       decided = inr (inr (inr rose));
     }
-
--- two ends of one task have one status
-pub one_status : HaveOneStatus
-one_status (task.Run t) s other text other_text (planned seen is same) (planned seen_too is_too same_too) = is ∙ sym is_too
-one_status (task.Run t) s other text other_text (planned seen is same) (unplanned unseen is_too same_too) = cc
-one_status (task.Run t) s other text other_text (unplanned unseen is same) (planned seen is_too same_too) = cc
-one_status (task.Run t) s other text other_text (unplanned unseen is same) (unplanned unseen_too is_too same_too) = is ∙ sym is_too

@@ -1,14 +1,12 @@
 -- What the words of a command and its files come to: the files are taken in their order, each is refused before the
 -- next is looked at. docs/FORMATS.md, "Input", tells it in prose.
-use Rattle.std.specs.Prelude.{ℕ, List, [], ◌∷◌, ◌++◌, length, nat_lt, codes, slice_get, Option, Some, None, Result, Ok, Err, if◌then◌else◌}
-use Rattle.std.specs.Option.{option_map_or}
+use Rattle.std.specs.Prelude.{ℕ, List, [], ◌∷◌, length, nat_lt, Option, Some, None, Result, Ok, Err, if◌then◌else◌}
 use Rattle.std.specs.Str.{is_utf8}
 use Rattle.std.specs.Str.Lossy.{utf8_valid_len}
 use Rattle.mq_base.specs.declared.ids.TableId.{TableId}
 use Rattle.mq_base.specs.declared.query.Query.{Query}
 use Rattle.mq_base.specs.declared.refusal.Refusal.{Refusal}
 use Rattle.mq_base.specs.declared.schema.Schema.{Schema}
-use Rattle.mq_base.specs.declared.schema.TableInfo.{TableInfo}
 use Rattle.mq_base.specs.declared.table.PlainTable.{PlainTable}
 use Rattle.mq_base.specs.Refusal.{refusal}
 use Rattle.policy_reader.specs.declared.policy.Policy.{Policy}
@@ -26,7 +24,7 @@ use Rattle.planner_cli.specs.declared.task.RunTask.{RunTask}
 use Rattle.planner_cli.specs.declared.task.Task.{Task}
 use Rattle.planner_cli.specs.declared.task.Task.TheVariants as task
 use Rattle.planner_cli.specs.Files.{Lookup}
-use Rattle.planner_cli.specs.Selection.{is_plain}
+use Rattle.planner_cli.specs.Names.{table_file}
 use Rattle.planner_cli.specs.Words.{RunCommand, Command, run, command_of}
 
 -- where a file of a command stops it
@@ -75,29 +73,17 @@ policy_input name lookup = opened role.Policy name policy_outcome (lookup role.P
 unfoldable pub prices_input : Policy → List ℕ → Lookup → Result Prices Stop
 prices_input p name lookup = opened role.Prices name (price_outcome p) (lookup role.Prices name)
 
--- a query that is answered so far: one of one table, without a condition and without a group
-abbrev pub answered : Query → Result Query Refusal
-answered q = if is_plain q then Ok q else Err (refusal 99 0 0)
-
 -- the text of a query: it is one of the grammar, and it binds
 unfoldable pub text_bound : Schema → List ℕ → Result Query Refusal
 text_bound schema text = and_then (query_outcome text) (bind_outcome schema)
 
--- the bytes of a query: they are UTF-8 and a query that is answered
+-- the bytes of a query: they are UTF-8, and the text of a query
 unfoldable pub query_read : Schema → List ℕ → Result Query Refusal
-query_read schema bytes =
-    if is_utf8 bytes then and_then (text_bound schema bytes) answered else Err (refusal bad_char (utf8_valid_len bytes) 0)
+query_read schema bytes = if is_utf8 bytes then text_bound schema bytes else Err (refusal bad_char (utf8_valid_len bytes) 0)
 
 -- the query
 unfoldable pub query_input : Policy → List ℕ → Lookup → Result Query Stop
 query_input p name lookup = opened role.Query name (query_read p.schema) (lookup role.Query name)
-
--- the name of a table, and the name of its file
-abbrev pub table_name : Policy → TableId → List ℕ
-table_name p t = option_map_or (λ (info : TableInfo). info.name) (slice_get p.schema.tables t.0) (codes "")
-
-abbrev pub table_file : Policy → TableId → List ℕ
-table_file p t = table_name p t ++ codes ".csv"
 
 -- the content of a table
 unfoldable pub table_input : Policy → TableId → Lookup → Result PlainTable Stop

@@ -1,11 +1,11 @@
 pub mod Status
 pub mod Words
 pub mod Commands
+pub mod Names
 pub mod PlanLine
 pub mod Answer
 pub mod CsvWriting
 pub mod Files
-pub mod Selection
 pub mod Input
 pub mod Report
 pub mod Ends

@@ -31,18 +31,24 @@ IsDue (stopped (absent file name)) s = s ≡ status.ReadFault file
 IsDue (stopped (refused fault)) s = s ≡ status.Input fault
 IsDue (accepted task) s = (text : List ℕ) × Ends task s text
 
--- whether a command has ended, so that all of its text was written
+-- whether a command has ended, so that all of its text was written, where there is one to write
 abbrev pub is_end : Status → Bool
 is_end status.Done = true
 is_end status.NoPlan = true
+is_end (status.TooManyStates node) = true
+is_end status.CostRange = true
+is_end (status.RowRange node) = true
 is_end _ = false
 
--- whether the status is decided by the words and the files alone
-abbrev pub is_early : Status → Bool
-is_early status.Words = true
-is_early (status.Input fault) = true
-is_early (status.ReadFault file) = true
-is_early _ = false
+-- whether nothing is written with this status
+abbrev pub is_silent : Status → Bool
+is_silent status.Words = true
+is_silent (status.Input fault) = true
+is_silent (status.ReadFault file) = true
+is_silent (status.TooManyStates node) = true
+is_silent status.CostRange = true
+is_silent (status.RowRange node) = true
+is_silent _ = false
 
 -- a file could not be read: the count of faults rose, the name that failed is that of the file, and with that name hidden
 -- the input stops exactly there, so that all earlier files are accepted

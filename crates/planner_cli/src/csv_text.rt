@@ -5,14 +5,14 @@ ghost use Rattle.planner_cli.specs.Answer.{shown, csv_text};
 ghost use Rattle.planner_cli.specs.CsvWriting.{IsWriting};
 
 use csv::{ByteRecord, Writer};
-use mq_base::{NoMemory, Value};
+use mq_base::{NoMemory, Seq, Value};
 use std::alloc::Global;
 
-// A writer with nothing written.
-fn open(alloc: Global) -> Writer<Vec<u8>>
-    ensures { IsWriting result [] }
+// A writer that goes on after a text.
+fn open(text: Vec<u8>) -> Writer<Vec<u8>>
+    ensures { IsWriting result text.items }
 {
-    Writer::from_writer(Vec::new(alloc))
+    Writer::from_writer(text)
 }
 
 // Writes a record at the end.
@@ -50,8 +50,8 @@ fn push_value(alloc: Global, record: &mut ByteRecord, value: &Value) -> Result<(
 }
 
 // Makes a record that of a row.
-fn fill(alloc: Global, record: &mut ByteRecord, row: &[&Value]) -> Result<(), NoMemory>
-    ensures { OnOk result (fields_of record.new ≡ map shown (map (λ v. v.now) row.now)) }
+fn fill(alloc: Global, record: &mut ByteRecord, row: &[Value]) -> Result<(), NoMemory>
+    ensures { OnOk result (fields_of record.new ≡ map shown row.now) }
 {
     record.clear();
     'cells: for value in row {
@@ -61,22 +61,26 @@ fn fill(alloc: Global, record: &mut ByteRecord, row: &[&Value]) -> Result<(), No
 }
 
 // The record of the columns' names.
-fn header(alloc: Global, names: &[&[u8]]) -> Result<ByteRecord, NoMemory>
+fn header(alloc: Global, names: &[&str]) -> Result<ByteRecord, NoMemory>
     ensures { IfOk result (λ names_record. fields_of names_record ≡ map (λ n. n.now) names.now) }
 {
     let mut record = ByteRecord::new(alloc);
     'names: for name in names {
-        record.push_field(name)?;
+        record.push_field(name.as_bytes())?;
     }
     Ok(record)
 }
 
-// The names and then the rows as comma-separated text.
-pub fn text(alloc: Global, names: &[&[u8]], rows: &[Vec<&Value>]) -> Result<Vec<u8>, NoMemory>
-    ensures { IfOk result (λ text. text.items
-        ≡ csv_text (map (λ n. n.now) names.now ∷ map (map shown) (map (λ row. map (λ v. v.now) row.items) rows.now))) }
+// Puts the names and then the rows as comma-separated text at the end of a text.
+pub fn append(
+    alloc: Global,
+    text: Vec<u8>,
+    names: &[&str],
+    rows: &[Seq<Value>],
+) -> Result<Vec<u8>, NoMemory>
+    ensures { IfOk result (λ whole. whole.items ≡ text.items ++ csv_text (map (λ n. n.now) names.now ∷ map (map shown) rows.now)) }
 {
-    let mut writer = open(alloc);
+    let mut writer = open(text);
     let mut record = header(alloc, names)?;
     put(&mut writer, &record)?;
     'rows: for row in rows {

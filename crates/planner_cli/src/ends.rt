@@ -1,11 +1,22 @@
-ghost use Rattle.std.specs.Prelude.{IfOk};
-ghost use Rattle.planner_cli.specs.Ends.{RunEnds, Ends, HaveOneStatus};
+ghost use Rattle.std.specs.Prelude.{◌≡◌, ◌<◌, ◌≤◌, [], length, map, IfOk};
+ghost use Rattle.std.specs.List.{AllByRecursion};
+ghost use Rattle.assign_table.specs.Found.{HasFew, IsLeastPlan, most_cost};
+ghost use Rattle.extended_plan.specs.Job.{setting_of};
+ghost use Rattle.mq_base.specs.BoundQuery.{IsBound};
+ghost use Rattle.mq_base.specs.Table.{HasForm};
+ghost use Rattle.mq_base.specs.declared.table.PlainTable.{PlainTable};
+ghost use Rattle.plan_algebra.specs.Meaning.{MeansQuery};
+ghost use Rattle.policy_reader.specs.Accepted.{IsAccepted};
+ghost use Rattle.planner_cli.specs.Ends.{EndsUnder, RunEnds, Ends, HaveOneStatus};
 ghost use Rattle.planner_cli.specs.inside.Loading.{IsSoundRun, IsSound};
 
+use crate::report;
 use crate::status::Status;
 use crate::task::{RunTask, Task};
-use crate::{report, selection};
-use mq_base::NoMemory;
+use assign_table::{SearchNo, search};
+use extended_plan::{Found, Job};
+use mq_base::{NoMemory, PlainTable, Seq, Step};
+use plan_runner::{RunStop, run_plan};
 use std::alloc::Global;
 
 // How a command ends: its status and the text of its report.
@@ -15,33 +26,106 @@ pub struct End {
     pub text: Vec<u8>,
 }
 
-// The end of a command `run`.
-fn run_end(alloc: Global, task: &RunTask) -> Result<End, NoMemory>
-    requires { IsSoundRun task.now }
-    ensures { IfOk result (λ found. RunEnds task.now found.status found.text.items) }
+// An end at which nothing is written.
+fn silent(alloc: Global, status: Status) -> End
+    ensures status { result.status ≡ status }
+    ensures text { result.text.items ≡ [] }
 {
-    let columns = selection::attributes(alloc, task.query.items.as_slice())?;
-    if !report::may_see(task.policy.plain(task.policy.user), columns.as_slice()) {
-        return Ok(End {
-            status: Status::NoPlan,
-            text: Vec::from_slice(alloc, b"cost none\n")?,
-        });
+    End {
+        status,
+        text: Vec::new(alloc),
     }
-    let t = selection::only_table(&task.query);
-    let table = &task.tables.as_slice()[0];
-    Ok(End {
-        status: Status::Done,
-        text: report::text(alloc, &task.policy, columns.as_slice(), t, table)?,
-    })
+}
+
+// The end of a run of a least plan.
+fn planned_end(
+    alloc: Global,
+    job: &Job<'_>,
+    seed: &[u8; 32],
+    tables: Seq<PlainTable>,
+    steps: &[Step],
+    cost: u128,
+) -> Result<End, NoMemory>
+    requires accepted { IsAccepted job.now.policy.now }
+    requires bound { IsBound job.now.policy.now.schema job.now.query.now }
+    requires means { MeansQuery job.now.policy.now.schema job.now.query.now job.now.facts.plan }
+    requires listed { map (λ (table : PlainTable). table.table) tables ≡ job.now.query.now.tables }
+    requires form { AllByRecursion (HasForm job.now.policy.now.schema) tables }
+    requires plan { IsLeastPlan (setting_of job.now) steps.now cost }
+    requires within { cost < most_cost }
+    requires short { length steps.now ≤ 200000 }
+    requires few { HasFew (setting_of job.now) }
+    ensures { IfOk result (λ end. EndsUnder (setting_of job.now) job.now.query.now tables end.status end.text.items) }
+{
+    match run_plan(alloc, job, seed, tables, steps) {
+        Ok(rows) => {
+            let items = job.query.items.as_slice();
+            Ok(End {
+                status: Status::Done,
+                text: report::text(alloc, job.policy, items, steps, cost, rows)?,
+            })
+        }
+        Err(RunStop::RowRange(node)) => Ok(silent(alloc, Status::RowRange(node))),
+        Err(RunStop::NoMemory) => Err(NoMemory),
+    }
+}
+
+// The end of a query over its tables: a least plan is sought, and run where there is one.
+fn job_end(
+    alloc: Global,
+    job: &Job<'_>,
+    seed: &[u8; 32],
+    tables: Seq<PlainTable>,
+) -> Result<End, NoMemory>
+    requires accepted { IsAccepted job.now.policy.now }
+    requires bound { IsBound job.now.policy.now.schema job.now.query.now }
+    requires means { MeansQuery job.now.policy.now.schema job.now.query.now job.now.facts.plan }
+    requires listed { map (λ (table : PlainTable). table.table) tables ≡ job.now.query.now.tables }
+    requires form { AllByRecursion (HasForm job.now.policy.now.schema) tables }
+    ensures { IfOk result (λ end. EndsUnder (setting_of job.now) job.now.query.now tables end.status end.text.items) }
+{
+    match search(alloc, job) {
+        Ok(
+            Found::Plan {
+                steps,
+                cost,
+                labels: _,
+            },
+        ) => { planned_end(alloc, job, seed, tables, steps.as_slice(), cost) }
+        Ok(Found::Nothing { labels: _ }) => Ok(End {
+            status: Status::NoPlan,
+            text: report::none_text(alloc)?,
+        }),
+        Err(SearchNo::TooManyStates { node }) => Ok(silent(alloc, Status::TooManyStates(node))),
+        Err(SearchNo::CostRange) => Ok(silent(alloc, Status::CostRange)),
+        Err(SearchNo::NoMemory) => Err(NoMemory),
+    }
+}
+
+// The end of a command `run`.
+fn run_end(alloc: Global, task: RunTask) -> Result<End, NoMemory>
+    requires { IsSoundRun task }
+    ensures { IfOk result (λ end. RunEnds task end.status end.text.items) }
+{
+    let RunTask {
+        policy,
+        prices,
+        query,
+        tables,
+        seed,
+        schedule: _,
+    } = task;
+    let job = Job::of(alloc, &policy, &prices, &query)?;
+    job_end(alloc, &job, &seed, tables)
 }
 
 // The end of a command.
 pub fn end_of(alloc: Global, task: Task) -> Result<End, NoMemory>
     requires { IsSound task }
-    ensures { IfOk result (λ found. Ends task found.status found.text.items) }
+    ensures { IfOk result (λ end. Ends task end.status end.text.items) }
 {
     match task {
-        Task::Run(run) => run_end(alloc, &run),
+        Task::Run(run) => run_end(alloc, run),
     }
 }
 

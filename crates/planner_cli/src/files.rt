@@ -1,26 +1,28 @@
-ghost use Rattle.std.specs.Prelude.{◌≡◌, ◌<◌, ◌≤◌, ◌∷◌, [], map, true, All, length, IfOk, IfErr};
+ghost use Rattle.std.specs.Prelude.{◌≡◌, ◌≤◌, ◌∷◌, [], map, length, IfOk, IfErr};
 ghost use Rattle.std.specs.String.{string_bytes};
-ghost use Rattle.std.specs.Str.{IsUtf8};
+ghost use Rattle.std.specs.List.{AllByRecursion};
 ghost use Rattle.mq_base.specs.BoundQuery.{IsBound};
+ghost use Rattle.mq_base.specs.Table.{HasForm};
+ghost use Rattle.mq_base.specs.declared.table.PlainTable.{PlainTable};
 ghost use Rattle.outside_io.specs.Outside.{IsHeld, Follows};
 ghost use Rattle.policy_reader.specs.Accepted.{IsAccepted};
 ghost use Rattle.price_reader.specs.Priced.{IsPriced};
 ghost use Rattle.planner_cli.specs.Commands.{command_in, run_in};
-ghost use Rattle.planner_cli.specs.Input.{most, policy_input, prices_input, query_input, table_input, tables_input, table_file, run_task, task_of};
+ghost use Rattle.planner_cli.specs.Input.{most, policy_input, prices_input, query_input, table_input, tables_input, run_task, task_of};
+ghost use Rattle.planner_cli.specs.Names.{table_file};
 ghost use Rattle.planner_cli.specs.inside.Loading.{StopsReading, Loads, Loaded, IsSoundRun, IsSound};
-ghost use Rattle.planner_cli.specs.Selection.{is_plain};
 
 use crate::load_no::{LoadNo, judge, refused};
+use crate::names;
 use crate::query::read_bound;
 use crate::status::FileRole;
 use crate::task::{RunTask, Task};
 use crate::words::{Command, RunWords};
-use mq_base::{NoMemory, PlainTable, Query, Refusal, Seq, TableId, Text};
+use mq_base::{NoMemory, PlainTable, Query, Refusal, Seq, TableId};
 use outside_io::{Shelf, ShelfNo};
 use policy_reader::{Policy, read_policy};
 use price_reader::{Prices, read_prices};
 use std::alloc::Global;
-use std::str;
 use table_reader::read_table;
 
 // The most bytes that a file may have.
@@ -92,29 +94,18 @@ fn load_query<H: Shelf>(
     requires { IsAccepted policy.now }
     ensures loads { Loads (H.state shelf.old) (H.state shelf.new) (FileRole.Query ∷ []) (query_input policy.now name.now) result }
     ensures bound { IfOk result (IsBound policy.now.schema) }
-    ensures plain { IfOk result (λ query. is_plain query ≡ true) }
     ensures follows { Follows (H.state shelf.old) (H.state shelf.new) }
 {
     let bytes = read_file(alloc, shelf, FileRole::Query, name)?;
     read_bound(alloc, bytes.as_slice(), &policy.schema)
 }
 
-// The bytes of a name as text.
-pub fn name_text(name: &Text) -> &str
-    requires { IsUtf8 name.now }
-    ensures { result.now ≡ name.now }
-{
-    str::from_utf8(name.as_bytes()).unwrap()
-}
-
 // The name of a table's file.
 fn table_file_name(alloc: Global, policy: &Policy, t: TableId) -> Result<String, NoMemory>
-    requires accepted { IsAccepted policy.now }
-    requires table { t.0 < length policy.now.schema.tables }
+    requires { IsAccepted policy.now }
     ensures { IfOk result (λ name. string_bytes name ≡ table_file policy.now t) }
 {
-    let info = &policy.schema.tables.as_slice()[t.0 as usize];
-    let mut name = String::from_str(alloc, name_text(&info.name))?;
+    let mut name = String::from_str(alloc, names::table(policy, t))?;
     name.push_str(".csv")?;
     Ok(name)
 }
@@ -126,9 +117,10 @@ fn load_table<H: Shelf>(
     policy: &Policy,
     t: TableId,
 ) -> Result<PlainTable, LoadNo>
-    requires accepted { IsAccepted policy.now }
-    requires table { t.0 < length policy.now.schema.tables }
+    requires { IsAccepted policy.now }
     ensures loads { Loads (H.state shelf.old) (H.state shelf.new) (FileRole.Table t ∷ []) (table_input policy.now t) result }
+    ensures form { IfOk result (HasForm policy.now.schema) }
+    ensures named { IfOk result (λ table. table.table ≡ t) }
     ensures follows { Follows (H.state shelf.old) (H.state shelf.new) }
 {
     let name = table_file_name(alloc, policy, t)?;
@@ -146,10 +138,10 @@ fn load_tables<H: Shelf>(
     policy: &Policy,
     tables: &[TableId],
 ) -> Result<Seq<PlainTable>, LoadNo>
-    requires accepted { IsAccepted policy.now }
-    requires tables { All (λ t. t.0 < length policy.now.schema.tables) tables.now }
+    requires { IsAccepted policy.now }
     ensures loads { Loads (H.state shelf.old) (H.state shelf.new) (map (λ t. FileRole.Table t) tables.now) (tables_input policy.now tables.now) result }
-    ensures all { IfOk result (λ contents. length contents ≡ length tables.now) }
+    ensures listed { IfOk result (λ contents. map (λ (table : PlainTable). table.table) contents ≡ tables.now) }
+    ensures form { IfOk result (AllByRecursion (HasForm policy.now.schema)) }
     ensures follows { Follows (H.state shelf.old) (H.state shelf.new) }
 {
     let mut contents = Vec::with_capacity(alloc, tables.len())?;

@@ -1,9 +1,8 @@
-ghost use Rattle.std.specs.Prelude.{◌≡◌, ◌≤◌, true, length, IfOk};
+ghost use Rattle.std.specs.Prelude.{◌≤◌, length, IfOk};
 ghost use Rattle.mq_base.specs.BoundQuery.{IsBound};
 ghost use Rattle.mq_base.specs.Schema.{IsSchema};
 ghost use Rattle.planner_cli.specs.Input.{query_read, text_bound};
 ghost use Rattle.planner_cli.specs.inside.Loading.{Judges};
-ghost use Rattle.planner_cli.specs.Selection.{is_plain};
 
 use crate::load_no::{LoadNo, judge, refused};
 use crate::status::FileRole;
@@ -26,13 +25,6 @@ fn bound_query(alloc: Global, text: &str, schema: &Schema) -> Result<Query, Load
     judge(FileRole::Query, bind(alloc, &raw, schema))
 }
 
-// Whether a query is of one table and has neither a condition nor a group.
-fn is_plain(query: &Query) -> bool
-    ensures { result ≡ is_plain query.now }
-{
-    query.tables.as_slice().len() == 1 && query.conds.as_slice().is_empty() && !query.grouped
-}
-
 // The query that the bytes of its file stand for.
 #[tactic(auto, unfolding(crate::specs::Input::query_read))]
 pub fn read_bound(alloc: Global, bytes: &[u8], schema: &Schema) -> Result<Query, LoadNo>
@@ -40,7 +32,6 @@ pub fn read_bound(alloc: Global, bytes: &[u8], schema: &Schema) -> Result<Query,
     requires schema { IsSchema schema.now }
     ensures read { Judges FileRole.Query result (query_read schema.now bytes.now) }
     ensures bound { IfOk result (IsBound schema.now) }
-    ensures plain { IfOk result (λ query. is_plain query ≡ true) }
 {
     let text = match str::from_utf8(bytes) {
         Ok(text) => text,
@@ -53,14 +44,5 @@ pub fn read_bound(alloc: Global, bytes: &[u8], schema: &Schema) -> Result<Query,
             return Err(refused(FileRole::Query, refusal));
         }
     };
-    let query = bound_query(alloc, text, schema)?;
-    if !is_plain(&query) {
-        let refusal = Refusal {
-            code: 99,
-            at: 0,
-            item: 0,
-        };
-        return Err(refused(FileRole::Query, refusal));
-    }
-    Ok(query)
+    bound_query(alloc, text, schema)
 }

@@ -1,7 +1,7 @@
 ghost use Rattle.std.specs.Prelude.{◌≡◌};
 ghost use Rattle.planner_cli.specs.Status.{number_of};
 
-use mq_base::TableId;
+use mq_base::{NodeId, TableId};
 use std::fmt;
 
 /// A file of a command.
@@ -42,7 +42,7 @@ pub struct InputFault {
 pub enum Status {
     /// The whole report was written.
     Done,
-    /// No authorised plan exists; the whole report, which says so, was written.
+    /// No valid extended plan exists; the whole report, which says so, was written.
     NoPlan,
     /// The words are of no command's form.
     Words,
@@ -52,8 +52,14 @@ pub enum Status {
     ReadFault(FileRole),
     /// The report could not be written.
     WriteFault,
+    /// More than 200,000 states are reached at the nodes up to this one, and not at those before it.
+    TooManyStates(NodeId),
+    /// Valid extended plans exist, and each costs 2^128 - 1 or more.
+    CostRange,
     /// The allocator refused a request for memory.
     NoMemory,
+    /// A plan was found, and this node is the first with more than 2^48 - 1 rows.
+    RowRange(NodeId),
 }
 
 impl Status {
@@ -68,7 +74,10 @@ impl Status {
             Status::Input(_) => 3,
             Status::ReadFault(_) => 4,
             Status::WriteFault => 5,
+            Status::TooManyStates(_) => 6,
+            Status::CostRange => 7,
             Status::NoMemory => 9,
+            Status::RowRange(_) => 10,
         }
     }
 }
@@ -86,7 +95,10 @@ impl fmt::Display for Status {
             ),
             Status::ReadFault(file) => write!(f, "read fault {}", file),
             Status::WriteFault => f.write_str("write fault"),
+            Status::TooManyStates(node) => write!(f, "too many states at node {}", node.0),
+            Status::CostRange => f.write_str("cost range"),
             Status::NoMemory => f.write_str("no memory"),
+            Status::RowRange(node) => write!(f, "row range at node {}", node.0),
         }
     }
 }

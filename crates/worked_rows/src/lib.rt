@@ -3,4 +3,6 @@
 #![tactic(auto)]
 
 #[cfg(test)]
+mod planned;
+#[cfg(test)]
 mod tests;

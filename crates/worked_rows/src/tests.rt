@@ -1,7 +1,7 @@
 ghost use Rattle.std.specs.Prelude.{IfOk};
 ghost use Rattle.outside_io.specs.Outside.{HasDistinctNames};
 
-use mq_base::{NoMemory, Seq, TableId, Text};
+use mq_base::{NoMemory, NodeId, Seq, TableId, Text};
 use outside_io::{MemoryShelf, MemorySink};
 use planner_cli::{FileRole, InputFault, Status, run};
 use std::alloc::Global;
@@ -29,9 +29,9 @@ const ROWS: &str = "a,b\n1,x\n-2,y\n1,z\n";
 
 const SEED: &str = "0000000000000000000000000000000000000000000000000000000000000000";
 
-const RUN: [&str; 6] = ["run", "policy", "prices", "query", SEED, "0"];
+pub(crate) const RUN: [&str; 6] = ["run", "policy", "prices", "query", SEED, "0"];
 
-const REPORT: &str = "plan [[\"base\",\"r\"],[\"send\",\"U\"]]\nanswer\na\n-2\n1\n1\n";
+const REPORT: &str = "cost 480\nplan [[\"base\",\"r\"],[\"send\",\"U\"]]\nanswer\na\n-2\n1\n1\n";
 
 // The files of a command: the policy is two texts, one behind the other.
 fn files(
@@ -80,7 +80,7 @@ fn refused(file: FileRole, code: u16, at: u64, item: u64) -> Status {
 }
 
 // A command over these files, whose status is answered and whose report goes to the sink.
-fn ran(
+pub(crate) fn ran(
     alloc: Global,
     given: &[&str],
     files: Seq<(Text, Text)>,
@@ -110,7 +110,7 @@ const REPORTS: [Row; 6] = [
         "select a from r",
         "a,b\n",
         Status::Done,
-        "plan [[\"base\",\"r\"],[\"send\",\"U\"]]\nanswer\na\n",
+        "cost 480\nplan [[\"base\",\"r\"],[\"send\",\"U\"]]\nanswer\na\n",
     ),
     (
         (FRONT, SEALED_B),
@@ -124,21 +124,21 @@ const REPORTS: [Row; 6] = [
         "SELECT b, a FROM r\n",
         ROWS,
         Status::Done,
-        "plan [[\"base\",\"r\"],[\"send\",\"U\"]]\nanswer\nb,a\nx,1\ny,-2\nz,1\n",
+        "cost 4140\nplan [[\"base\",\"r\"],[\"send\",\"U\"]]\nanswer\nb,a\nx,1\ny,-2\nz,1\n",
     ),
     (
         (FRONT, PLAIN_A),
         "sElEcT a , a fRoM r\r\n",
         ROWS,
         Status::Done,
-        "plan [[\"base\",\"r\"],[\"send\",\"U\"]]\nanswer\na,a\n-2,-2\n1,1\n1,1\n",
+        "cost 480\nplan [[\"base\",\"r\"],[\"send\",\"U\"]]\nanswer\na,a\n-2,-2\n1,1\n1,1\n",
     ),
     (
         (OWNED, ""),
         "select a, b from r",
         ROWS,
         Status::Done,
-        "plan [[\"base\",\"r\"]]\nanswer\na,b\n-2,y\n1,x\n1,z\n",
+        "cost 0\nplan [[\"base\",\"r\"]]\nanswer\na,b\n-2,y\n1,x\n1,z\n",
     ),
 ];
 
@@ -337,7 +337,7 @@ fn thousand_rows(alloc: Global) -> Result<String, Fail> {
 fn thousand_sorted(alloc: Global) -> Result<String, Fail> {
     let mut report = String::from_str(
         alloc,
-        "plan [[\"base\",\"r\"],[\"send\",\"U\"]]\nanswer\na\n",
+        "cost 480\nplan [[\"base\",\"r\"],[\"send\",\"U\"]]\nanswer\na\n",
     )?;
     for number in -250..250_i64 {
         report.push_str(format!(in alloc; "{number}\n{number}\n")?.as_str())?;
@@ -376,7 +376,7 @@ fn status_of(alloc: Global, query: &[u8]) -> Result<Status, NoMemory> {
 }
 
 // Queries, one for each number of a refusal but 21, with the place.
-const REFUSED: [(&str, u16, u64); 16] = [
+const REFUSED: [(&str, u16, u64); 15] = [
     ("select a from r #", 1, 16),
     ("'", 2, 0),
     ("from", 3, 0),
@@ -396,7 +396,6 @@ const REFUSED: [(&str, u16, u64); 16] = [
     ("select min(b), max(b) from r group by a", 19, 15),
     ("select sum(a) from r", 20, 7),
     ("select a from r where a = a", 22, 22),
-    ("select a from r, s", 99, 0),
 ];
 
 fn check_refused(
@@ -450,7 +449,7 @@ fn check_no_plan(rt: &impl Abort, alloc: Global, rows: &[&str]) -> Result<(), No
 }
 
 #[test]
-fn queries_of_one_table_are_answered(rt: HostRuntime) -> Result<(), Fail> {
+fn queries_of_one_table_have_no_plan(rt: HostRuntime) -> Result<(), Fail> {
     check_no_plan(&rt, rt.alloc(), &ONE_TABLE)?;
     Ok(())
 }
@@ -624,7 +623,7 @@ fn failing_puts_leave_a_front(rt: HostRuntime) -> Result<(), Fail> {
 }
 
 // Each status has its number and its line.
-const STATUSES: [(Status, u8, &str); 8] = [
+const STATUSES: [(Status, u8, &str); 11] = [
     (Status::Done, 0, "done"),
     (Status::NoPlan, 1, "no authorised plan"),
     (Status::Words, 2, "words"),
@@ -654,7 +653,14 @@ const STATUSES: [(Status, u8, &str); 8] = [
         "read fault certificate",
     ),
     (Status::WriteFault, 5, "write fault"),
+    (
+        Status::TooManyStates(NodeId(63)),
+        6,
+        "too many states at node 63",
+    ),
+    (Status::CostRange, 7, "cost range"),
     (Status::NoMemory, 9, "no memory"),
+    (Status::RowRange(NodeId(0)), 10, "row range at node 0"),
 ];
 
 fn check_statuses(rt: &impl Abort, alloc: Global, rows: &[(Status, u8, &str)]) -> Result<(), Fail> {

@@ -1,8 +1,11 @@
 -- What the calls that read the files of a command say of the files that they saw.
 use Rattle.std.specs.Prelude.{◌≡◌, ◌<◌, ◌≤◌, ℕ, true, List, [], ◌∷◌, ◌++◌, length, map, Option, Some, None, Result, Ok, Err}
+use Rattle.std.specs.List.{AllByRecursion}
 use Rattle.mq_base.specs.declared.refusal.Refusal.{Refusal}
+use Rattle.mq_base.specs.declared.table.PlainTable.{PlainTable}
 use Rattle.mq_base.specs.BoundQuery.{AreDistinct, IsBound}
 use Rattle.mq_base.specs.Refusal.{refusal}
+use Rattle.mq_base.specs.Table.{HasForm}
 use Rattle.outside_io.specs.Outside.{Files, ShelfState, IsHeld, IsAbsent, TakesWithin, Rose}
 use Rattle.policy_reader.specs.Accepted.{IsAccepted}
 use Rattle.price_reader.specs.Priced.{IsPriced}
@@ -17,7 +20,6 @@ use Rattle.planner_cli.specs.declared.task.Task.{Task}
 use Rattle.planner_cli.specs.declared.task.Task.TheVariants as task
 use Rattle.planner_cli.specs.Files.{Lookup, role_number}
 use Rattle.planner_cli.specs.Input.{Stop, absent, refused, most, fault_of}
-use Rattle.planner_cli.specs.Selection.{is_plain}
 
 -- the status of files that were not loaded
 abbrev pub status_of : LoadNo → Status
@@ -126,8 +128,8 @@ pub record IsSoundRun (t : RunTask) : Type 0 where
   pub policy : IsAccepted t.policy
   pub prices : IsPriced (length t.policy.schema.attrs) t.prices
   pub query : IsBound t.policy.schema t.query
-  pub plain : is_plain t.query ≡ true
-  pub tables : length t.tables ≡ length t.query.tables
+  pub listed : map (λ (table : PlainTable). table.table) t.tables ≡ t.query.tables
+  pub form : AllByRecursion (HasForm t.policy.schema) t.tables
 
 abbrev pub IsSound : Task → Type 0
 IsSound (task.Run t) = IsSoundRun t

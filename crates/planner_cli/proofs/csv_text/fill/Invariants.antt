@@ -4,5 +4,4 @@ use Rattle.planner_cli.specs.Answer.{shown}
 use Rattle.planner_cli.proofs.csv_text.fill.Given as goal
 
 abbrev pub invariant-cells : goal.invariant-cells
-invariant-cells l =
-    (fields_of l.record ≡ map shown (map (λ v. v.now) (take l.value-index l.row))) × (partial_of l.record ≡ [])
+invariant-cells l = (fields_of l.record ≡ map shown (take l.value-index l.row)) × (partial_of l.record ≡ [])

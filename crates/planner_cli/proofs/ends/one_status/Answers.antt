@@ -1,4 +1,4 @@
-use Rattle.planner_cli.proofs.Telling.{one_status}
+use Rattle.planner_cli.proofs.Settings.{one_status}
 use Rattle.planner_cli.proofs.ends.one_status.Goals as goal
 
 pub returns : goal.returns

@@ -1,10 +1,13 @@
 use Rattle.std.proofs.Common.{◌≡◌, ◌∙◌}
 use Rattle.std.proofs.lemmas.Result.{err_from_is_err_and}
+use Rattle.mq_base.specs.declared.table.PlainTable.{PlainTable}
+use Rattle.mq_base.specs.Table.{HasForm}
 use Rattle.table_reader.specs.Codes as table
 use Rattle.table_reader.specs.Outcome.{table_outcome}
 use Rattle.planner_cli.specs.declared.status.FileRole.TheVariants as role
-use Rattle.planner_cli.specs.Input.{table_input, table_file}
-use Rattle.planner_cli.proofs.Judging.{answer_judges}
+use Rattle.planner_cli.specs.Input.{table_input}
+use Rattle.planner_cli.specs.Names.{table_file}
+use Rattle.planner_cli.proofs.Judging.{answer_judges, judged_if_ok}
 use Rattle.planner_cli.proofs.Knowing.{loads_judged, loads_failed}
 use Rattle.planner_cli.proofs.Numbers.{table_numbered}
 use Rattle.planner_cli.proofs.files.load_table.Goals as goal
@@ -26,3 +29,14 @@ returns-clause-loads g c =
     (table_file c.args.policy.now c.args.t) (table_outcome c.args.policy.now.schema c.args.t.0)
     c.in_ok-bytes.bytes.items _ (rw named at c.in_ok-bytes.ensures.content) c.in_ok-bytes.ensures.within
     (answer_judges (role.Table c.args.t) table.refusal_of table_numbered c.read_table.result _ (rw c.as_slice.ensures.value at c.read_table.ensures.read)))
+
+pub returns-clause-form : goal.returns-clause-form
+returns-clause-form g c =
+    rw c.judge.ensures
+    (judged_if_ok (role.Table c.args.t) table.refusal_of (HasForm c.args.policy.now.schema) c.read_table.result c.read_table.ensures.form)
+
+pub returns-clause-named : goal.returns-clause-named
+returns-clause-named g c =
+    rw c.judge.ensures
+    (judged_if_ok (role.Table c.args.t) table.refusal_of (λ (content : PlainTable). content.table ≡ c.args.t)
+    c.read_table.result c.read_table.ensures.named)

@@ -1,7 +1,9 @@
-use Rattle.std.proofs.Common.{arith, length-append}
+use Rattle.std.proofs.Common.{arith, ◌∷◌, []}
 use Rattle.std.proofs.lemmas.Result.{err_from_is_err_and}
+use Rattle.base_laws.proofs.FilterLaws.{each_append}
+use Rattle.mq_base.specs.Table.{HasForm}
 use Rattle.outside_io.proofs.Following.{Follows-trans}
-use Rattle.planner_cli.proofs.Tables.{known_more, stopped_at}
+use Rattle.planner_cli.proofs.Tables.{known_more, listed_more, stopped_at}
 use Rattle.planner_cli.proofs.files.load_tables.Goals as goal
 
 pub returns-in_err-load_table-clause-loads : goal.returns-in_err-load_table-clause-loads
@@ -16,6 +18,10 @@ tables-preserved g c = record {
   known = rw c.in_ok-push.ensures.items
       (known_more (g.H.Shelf.state c.args.shelf.now) (g.H.Shelf.state c.tables.shelf) c.args.policy.now c.args.tables.now c.tables.t-index _
       c.tables.contents.items _ (omega arith) c.tables.invariant.follows c.tables.invariant.known c.in_ok-load_table.ensures.loads);
-  all = rw (c.in_ok-push.ensures.items, length-append) (omega arith);
+  listed = rw c.in_ok-push.ensures.items
+      (listed_more c.args.tables.now c.tables.t-index _ c.tables.contents.items _ (omega arith)
+      c.tables.invariant.listed c.in_ok-load_table.ensures.named);
+  form = rw c.in_ok-push.ensures.items
+      (each_append (HasForm c.args.policy.now.schema) c.tables.contents.items (_ ∷ []) c.tables.invariant.form (c.in_ok-load_table.ensures.form, tt));
   follows = Follows-trans c.tables.invariant.follows c.load_table.ensures.follows;
 }

@@ -1,0 +1,2 @@
+SELECT T, SUM(P) FROM Hosp JOIN Ins ON S = C
+WHERE D = 'stroke' GROUP BY T HAVING SUM(P) > 100
