@@ -23,7 +23,7 @@ use Rattle.extended_plan.specs.Setting.{Setting, is_base, kind_at, leaf_of, op_a
 use Rattle.extended_plan.proofs.PlaceLaws.{one_known, two_known}
 use Rattle.extended_plan.proofs.ViewLaws.{seen}
 use Rattle.assign_table.specs.declared.gate.Gate.{Gate}
-use Rattle.assign_table.specs.declared.table.Cell.{Cell}
+use Rattle.assign_table.specs.declared.cell.Cell.{Cell}
 use Rattle.assign_table.specs.declared.way.Settled.{Settled}
 use Rattle.assign_table.specs.declared.way.Way.{Way}
 use Rattle.assign_table.specs.declared.way.Way.TheVariants as way

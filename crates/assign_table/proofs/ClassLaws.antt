@@ -12,7 +12,7 @@ use Rattle.extended_plan.specs.declared.state.State.{State}
 use Rattle.extended_plan.specs.Ready.{IsReady}
 use Rattle.extended_plan.specs.Setting.{kind_at, op_at}
 use Rattle.assign_table.specs.declared.gate.Gate.{Gate}
-use Rattle.assign_table.specs.declared.table.Cell.{Cell}
+use Rattle.assign_table.specs.declared.cell.Cell.{Cell}
 use Rattle.assign_table.specs.inside.Arrivals.{ArePairsOf, ArePlacesIn, ArePlacesOf, IsArrivedOn, IsClassListed, IsGate, IsHolderListed, IsPairListed, StaysOpen, gate_at, gate_setting, two_at}
 use Rattle.assign_table.specs.inside.Blocks.{IsFrom, IsPlaceOf, start_of}
 use Rattle.assign_table.specs.inside.Pairs.{compared_left, compared_right, is_in, is_same, is_sealed}

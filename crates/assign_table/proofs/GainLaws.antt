@@ -1,11 +1,9 @@
 -- Steps that gain nothing, and loops over the steps that may gain something.
 use Rattle.std.proofs.Common.{◌≡◌, ℕ, ◌+◌, ◌-◌, ◌^◌, ◌≤◌, ◌<◌, ◌⊎◌, inl, inr, Bool, true, false, ◌&&◌, ◌==◌, not, List, length, Option, Some, None, Result, Ok, Err, OnOk, if◌then◌else◌, refl, sym, ◌∙◌, ap, subst, true≢false, arith, nat_lt}
 use Rattle.std.specs.Prelude.{IfSome, option_map}
-use Rattle.std.proofs.lemmas.Bool.{le-ltb}
-use Rattle.std.proofs.lemmas.Nat.Bits.{bit_at_above}
+use Rattle.std.proofs.lemmas.Bool.{eqb-true, le-ltb}
 use Rattle.base_laws.specs.Sets.{has, without}
-use Rattle.base_laws.proofs.SetLaws.{has-without}
-use Rattle.mq_base.specs.declared.attr_set.AttrSet.{AttrSet}
+use Rattle.base_laws.proofs.SetLaws.{has-empty, has-single, has-without}
 use Rattle.mq_base.specs.declared.ids.AttrId.{AttrId}
 use Rattle.mq_base.specs.declared.ids.SubjectId.{SubjectId}
 use Rattle.mq_base.specs.declared.ids.NodeId.{NodeId}
@@ -18,7 +16,7 @@ use Rattle.extended_plan.specs.Gains.{Gain, dec_gain, enc_gain, held, send_gain,
 use Rattle.extended_plan.specs.Job.{IsStateAt, IsTakenOn, told}
 use Rattle.extended_plan.specs.Ready.{IsReady}
 use Rattle.extended_plan.specs.Setting.{Setting, known_at}
-use Rattle.assign_table.specs.declared.table.Cell.{Cell}
+use Rattle.assign_table.specs.declared.cell.Cell.{Cell}
 use Rattle.assign_table.specs.declared.way.Settled.{Settled}
 use Rattle.assign_table.specs.declared.way.Way.TheVariants as way
 use Rattle.assign_table.specs.inside.Settling.{AreCryptsListed, Continues, IsClosedOn, IsGainListed, ShowsCrowd, Stays}
@@ -93,12 +91,28 @@ module _ (s : Setting) (ready : IsReady s) (n : NodeId) (room at : ℕ) (e : Set
   step-crowd old refused =
       crowd-gained s ready n room at e act stays gain_told.gain gain_told.is old (subst (IsRefused room old) (sym gain_told.state) refused)
 
+-- what is not visible in plaintext is not encrypted, and what is not encrypted is not decrypted
+enc-none : (s : Setting) (n : ℕ) (st : State) (a : AttrId) → has (without (known_at s n).visible.0 st.view.enc.0) a.0 ≡ false
+    → enc_gain s n a st ≡ None
+enc-none s n st a hidden =
+    ap (λ b. held s st.holder (if b then Some (after_enc a.0 (shown s n st)) else None)
+    (step_work s.basis (step.Enc a) st.holder.0 n st.view)) hidden
+
+dec-none : (s : Setting) (n : ℕ) (st : State) (a : AttrId) → has st.view.enc.0 a.0 ≡ false → dec_gain s n a st ≡ None
+dec-none s n st a plain =
+    ap (λ b. held s st.holder (if b then Some (after_dec a.0 (shown s n st)) else None)
+    (step_work s.basis (step.Dec a) st.holder.0 n st.view)) plain
+
+-- a step that gains nothing lists all that it gains
+nothing-listed : (gain : Option Gain) (cells : List (State × Cell)) (label : ℕ) → gain ≡ None → IfSome gain (IsGainListed cells label)
+nothing-listed gain cells label none = subst (λ gain. IfSome gain (IsGainListed cells label)) (sym none) tt
+
 -- an attribute that is not visible is neither encrypted nor decrypted
 pub crypts-none : (s : Setting) (n : ℕ) (cells : List (State × Cell)) (e : Settled) (a : AttrId) → IsStateAt s n e.state
     → has (known_at s n).visible.0 a.0 ≡ false → AreCryptsListed s n a cells e
 crypts-none s n cells e a known hidden = record {
-  enc = subst (λ gain. IfSome gain (IsGainListed cells e.label)) (sym no_enc) tt;
-  dec = subst (λ gain. IfSome gain (IsGainListed cells e.label)) (sym no_dec) tt;
+  enc = nothing-listed (enc_gain s n a e.state) cells e.label (enc-none s n e.state a plain);
+  dec = nothing-listed (dec_gain s n a e.state) cells e.label (dec-none s n e.state a (sealed (has e.state.view.enc.0 a.0) refl));
 }
   where
     plain : has (without (known_at s n).visible.0 e.state.view.enc.0) a.0 ≡ false
@@ -108,25 +122,40 @@ crypts-none s n cells e a known hidden = record {
     sealed true is = absurd (true≢false (sym (known.view.visible.member a.0 is) ∙ hidden))
     sealed false is = is
 
-    no_enc : enc_gain s n a e.state ≡ None
-    no_enc =
-        ap (λ b. held s e.state.holder (if b then Some (after_enc a.0 (shown s n e.state)) else None)
-        (step_work s.basis (step.Enc a) e.state.holder.0 n e.state.view)) plain
+-- the one of the two that was tried is all that there is
+pub crypt-stays : (a : AttrId) (b : Bool) → Stays (if b then step.Dec a else step.Enc a)
+crypt-stays a true = tt
+crypt-stays a false = tt
 
-    no_dec : dec_gain s n a e.state ≡ None
-    no_dec =
-        ap (λ b. held s e.state.holder (if b then Some (after_dec a.0 (shown s n e.state)) else None)
-        (step_work s.basis (step.Dec a) e.state.holder.0 n e.state.view)) (sealed (has e.state.view.enc.0 a.0) refl)
+pub crypts-tried : (s : Setting) (n : NodeId) (cells : List (State × Cell)) (e : Settled) (a : AttrId) (b : Bool)
+    → has e.state.view.enc.0 a.0 ≡ b
+    → IfSome (step_gain s n (if b then step.Dec a else step.Enc a) e.state None) (IsGainListed cells e.label)
+    → AreCryptsListed s n.0 a cells e
+crypts-tried s n cells e a true sealed listed = record {
+  enc = nothing-listed (enc_gain s n.0 a e.state) cells e.label (enc-none s n.0 e.state a hidden);
+  dec = listed;
+}
+  where
+    by_test : (b : Bool) → b && false ≡ false
+    by_test true = refl
+    by_test false = refl
 
--- a send to none of the at most 16 subjects gains nothing
-pub sends-none : (s : Setting) → IsReady s → (n : ℕ) (st : State) (to : SubjectId) (cells : List (State × Cell)) (label : ℕ) → 16 ≤ to.0
-    → IfSome (send_gain s n to st) (IsGainListed cells label)
-sends-none s ready n st to cells label beyond =
-    let few : length s.policy.subjects ≤ 16 = ready.few_subjects in
-    let none : nat_lt to.0 (length s.policy.subjects) ≡ false = le-ltb to.0 (length s.policy.subjects) (omega arith) in
-    subst (λ gain. IfSome gain (IsGainListed cells label))
-    (sym (ap (λ b. if b && not (to.0 == st.holder.0) then held s to (Some (shown s n st)) (step_work s.basis (step.Send to) st.holder.0 n st.view) else None) none))
-    tt
+    hidden : has (without (known_at s n.0).visible.0 e.state.view.enc.0) a.0 ≡ false
+    hidden =
+        has-without (known_at s n.0).visible.0 e.state.view.enc.0 a.0
+        ∙ ap (λ b. has (known_at s n.0).visible.0 a.0 && not b) sealed ∙ by_test (has (known_at s n.0).visible.0 a.0)
+crypts-tried s n cells e a false plain listed = record {
+  enc = listed;
+  dec = nothing-listed (dec_gain s n.0 a e.state) cells e.label (dec-none s n.0 e.state a plain);
+}
+
+-- a send to no subject of the policy gains nothing
+pub sends-none : (s : Setting) (n : ℕ) (st : State) (to : SubjectId) (cells : List (State × Cell)) (label : ℕ)
+    → length s.policy.subjects ≤ to.0 → IfSome (send_gain s n to st) (IsGainListed cells label)
+sends-none s n st to cells label beyond =
+    let none : nat_lt to.0 (length s.policy.subjects) ≡ false = le-ltb to.0 (length s.policy.subjects) beyond in
+    nothing-listed (send_gain s n to st) cells label
+    (ap (λ b. if b && not (to.0 == st.holder.0) then held s to (Some (shown s n st)) (step_work s.basis (step.Send to) st.holder.0 n st.view) else None) none)
 
 -- what encryptions and decryptions gain is listed later
 pub crypts-later : (s : Setting) (n room at : ℕ) (e : Settled) (old new : Sheet) → Continues s n room at e old new → (a : AttrId)
@@ -136,52 +165,38 @@ crypts-later s n room at e old new later a listed = record {
   dec = gain-later s n room at e old new later e.label (dec_gain s n a e.state) listed.dec;
 }
 
--- an encryption was tried, and then the decryption
-pub crypts-tried : (s : Setting) (n room at : ℕ) (e : Settled) (old new : Sheet) (a : AttrId)
-    → IfSome (enc_gain s n a e.state) (IsGainListed old.cells e.label) → Continues s n room at e old new
-    → IfSome (dec_gain s n a e.state) (IsGainListed new.cells e.label) → AreCryptsListed s n a new.cells e
-crypts-tried s n room at e old new a first later second =
-    record { enc = gain-later s n room at e old new later e.label (enc_gain s n a e.state) first; dec = second }
-
--- each visible attribute below one more was tried
-pub attributes-more : (s : Setting) (n room at : ℕ) (e : Settled) (old new : Sheet) (visible : AttrSet) (i : ℕ)
-    → Continues s n room at e old new
-    → ((a : AttrId) → a.0 < i → has visible.0 a.0 ≡ true → AreCryptsListed s n a old.cells e)
-    → AreCryptsListed s n (record { 0 = i }) new.cells e
-    → (a : AttrId) → a.0 < i + 1 → has visible.0 a.0 ≡ true → AreCryptsListed s n a new.cells e
-attributes-more s n room at e old new visible i later before here a below there = by_order (below-or-last a.0 i below)
+-- each visible attribute that is not left was tried, and one more that was
+pub attributes-more : (s : Setting) (n room at : ℕ) (e : Settled) (old new : Sheet) (visible : ℕ) (left next : ℕ) (tried : AttrId)
+    → next ≡ without left (2 ^ tried.0) → Continues s n room at e old new
+    → ((a : AttrId) → has visible a.0 ≡ true → has left a.0 ≡ false → AreCryptsListed s n a old.cells e)
+    → AreCryptsListed s n tried new.cells e
+    → (a : AttrId) → has visible a.0 ≡ true → has next a.0 ≡ false → AreCryptsListed s n a new.cells e
+attributes-more s n room at e old new visible left next tried less later before here a there gone = by_test (has left a.0) refl
   where
-    by_order : (a.0 < i) ⊎ (a.0 ≡ i) → AreCryptsListed s n a new.cells e
-    by_order (inl less) = crypts-later s n room at e old new later a (before a less there)
-    by_order (inr same) = subst (λ k. AreCryptsListed s n (record { 0 = k }) new.cells e) (sym same) here
+    both : (y : Bool) → (true && not y) ≡ false → y ≡ true
+    both true is = refl
+    both false is = absurd (true≢false is)
 
--- one that is not visible need not be
-pub attributes-skip : (s : Setting) (n : ℕ) (e : Settled) (sheet : Sheet) (visible : AttrSet) (i : ℕ) → has visible.0 i ≡ false
-    → ((a : AttrId) → a.0 < i → has visible.0 a.0 ≡ true → AreCryptsListed s n a sheet.cells e)
-    → (a : AttrId) → a.0 < i + 1 → has visible.0 a.0 ≡ true → AreCryptsListed s n a sheet.cells e
-attributes-skip s n e sheet visible i hidden before a below there = by_order (below-or-last a.0 i below)
-  where
-    by_order : (a.0 < i) ⊎ (a.0 ≡ i) → AreCryptsListed s n a sheet.cells e
-    by_order (inl less) = before a less there
-    by_order (inr same) = absurd (true≢false (sym (subst (λ k. has visible.0 k ≡ true) same there) ∙ hidden))
+    by_test : (b : Bool) → has left a.0 ≡ b → AreCryptsListed s n a new.cells e
+    by_test false is = crypts-later s n room at e old new later a (before a there is)
+    by_test true is =
+        let split : (has left a.0 && not (has (2 ^ tried.0) a.0)) ≡ false =
+        sym (has-without left (2 ^ tried.0) a.0) ∙ ap (λ set. has set a.0) (sym less) ∙ gone in
+        let single : has (2 ^ tried.0) a.0 ≡ true =
+        both (has (2 ^ tried.0) a.0) (ap (λ b. b && not (has (2 ^ tried.0) a.0)) (sym is) ∙ split) in
+        let same : tried.0 ≡ a.0 = eqb-true tried.0 a.0 (sym (has-single tried.0 a.0) ∙ single) in
+        subst (λ k. AreCryptsListed s n (record { 0 = k }) new.cells e) same here
 
--- and so all were
-pub attributes-all : (s : Setting) (n : ℕ) (e : Settled) (sheet : Sheet) (visible : AttrSet) (i : ℕ) → 64 ≤ i → visible.0 < 2 ^ 64
-    → visible ≡ (known_at s n).visible → IsStateAt s n e.state
-    → ((a : AttrId) → a.0 < i → has visible.0 a.0 ≡ true → AreCryptsListed s n a sheet.cells e)
+-- and so all were, where none is left
+pub attributes-all : (s : Setting) (n : ℕ) (e : Settled) (sheet : Sheet) (visible left : ℕ) → left ≡ 0
+    → visible ≡ (known_at s n).visible.0 → IsStateAt s n e.state
+    → ((a : AttrId) → has visible a.0 ≡ true → has left a.0 ≡ false → AreCryptsListed s n a sheet.cells e)
     → (a : AttrId) → AreCryptsListed s n a sheet.cells e
-attributes-all s n e sheet visible i end small same known before a = by_test (has visible.0 a.0) refl
+attributes-all s n e sheet visible left end same known before a = by_test (has visible a.0) refl
   where
-    none : has visible.0 a.0 ≡ false → AreCryptsListed s n a sheet.cells e
-    none hidden = crypts-none s n sheet.cells e a known (subst (λ (set : AttrSet). has set.0 a.0 ≡ false) same hidden)
-
-    by_order : has visible.0 a.0 ≡ true → (a.0 < i) ⊎ (i ≤ a.0) → AreCryptsListed s n a sheet.cells e
-    by_order there (inl less) = before a less there
-    by_order there (inr beyond) = none (ap (λ b. b == 1) (bit_at_above visible.0 64 a.0 small (omega arith)))
-
-    by_test : (b : Bool) → has visible.0 a.0 ≡ b → AreCryptsListed s n a sheet.cells e
-    by_test true is = by_order is (below-or-above a.0 i)
-    by_test false is = none is
+    by_test : (b : Bool) → has visible a.0 ≡ b → AreCryptsListed s n a sheet.cells e
+    by_test true is = before a is (ap (λ set. has set a.0) end ∙ has-empty a.0)
+    by_test false is = crypts-none s n sheet.cells e a known (subst (λ set. has set a.0 ≡ false) same is)
 
 -- each subject below one more was tried
 pub subjects-more : (s : Setting) (n room at : ℕ) (e : Settled) (old new : Sheet) (i : ℕ) → Continues s n room at e old new
@@ -195,14 +210,14 @@ subjects-more s n room at e old new i later before here to below = by_order (bel
     by_order (inr same) = subst (λ k. IfSome (send_gain s n (record { 0 = k }) e.state) (IsGainListed new.cells e.label)) (sym same) here
 
 -- and so all were
-pub subjects-all : (s : Setting) → IsReady s → (n : ℕ) (e : Settled) (sheet : Sheet) (i : ℕ) → 16 ≤ i
+pub subjects-all : (s : Setting) (n : ℕ) (e : Settled) (sheet : Sheet) (i : ℕ) → length s.policy.subjects ≤ i
     → ((to : SubjectId) → to.0 < i → IfSome (send_gain s n to e.state) (IsGainListed sheet.cells e.label))
     → (to : SubjectId) → IfSome (send_gain s n to e.state) (IsGainListed sheet.cells e.label)
-subjects-all s ready n e sheet i end before to = by_order (below-or-above to.0 i)
+subjects-all s n e sheet i end before to = by_order (below-or-above to.0 i)
   where
     by_order : (to.0 < i) ⊎ (i ≤ to.0) → IfSome (send_gain s n to e.state) (IsGainListed sheet.cells e.label)
     by_order (inl less) = before to less
-    by_order (inr beyond) = sends-none s ready n e.state to sheet.cells e.label (omega arith)
+    by_order (inr beyond) = sends-none s n e.state to sheet.cells e.label (omega arith)
 
 -- all encryptions and decryptions were tried, and then all sends
 pub steps-closed : (s : Setting) (n room at : ℕ) (e : Settled) (old new : Sheet) → ((a : AttrId) → AreCryptsListed s n a old.cells e)

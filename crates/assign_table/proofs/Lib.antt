@@ -2,6 +2,7 @@ pub mod WayLaws
 pub mod SpanLaws
 pub mod BlockLaws
 pub mod PlaceLaws
+pub mod QueueLaws
 pub mod CountLaws
 pub mod TellLaws
 pub mod LabelLaws

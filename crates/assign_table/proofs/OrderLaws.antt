@@ -2,7 +2,6 @@
 -- waits is taken. So a settled state is never changed, and never waits again.
 use Rattle.std.proofs.Common.{◌≡◌, ℕ, zero, suc, ◌+◌, ◌≤◌, ◌<◌, ◌⊎◌, inl, inr, Bool, true, false, ◌&&◌, ◌==◌, cond, List, [], ◌∷◌, ◌++◌, length, drop, Option, Some, None, slice_get, refl, sym, ◌∙◌, ap, subst, true≢false, arith, nat_lt}
 use Rattle.std.specs.List.{IsDistinct}
-use Rattle.std.specs.declared.cmp.Reverse.{Reverse}
 use Rattle.std.proofs.lemmas.Bool.{eqb-true, ltb-false, ltb-true}
 use Rattle.std.proofs.lemmas.List.{drop_all, length_push}
 use Rattle.std.proofs.lemmas.Map.Keys.{IsDistinct-push}
@@ -11,19 +10,18 @@ use Rattle.base_laws.proofs.BoolLaws.{both}
 use Rattle.extended_plan.proofs.EntryLaws.{same_state}
 use Rattle.extended_plan.specs.declared.state.State.{State}
 use Rattle.extended_plan.specs.States.{state_eq}
-use Rattle.assign_table.specs.declared.table.Cell.{Cell}
-use Rattle.assign_table.specs.declared.table.Waiting.{Waiting}
+use Rattle.assign_table.specs.declared.cell.Cell.{Cell}
 use Rattle.assign_table.specs.declared.way.Settled.{Settled}
 use Rattle.assign_table.specs.declared.way.Way.{Way}
 use Rattle.assign_table.specs.inside.Order.{IsAtRest, IsListedOn, IsOrdered, IsSettledFrom, states_of}
-use Rattle.assign_table.specs.inside.Sheet.{IsBlank, IsOffered, IsTaken, IsWritten, Sheet, cell_of, is_lower, is_this, is_waiting, times}
+use Rattle.assign_table.specs.inside.Sheet.{IsBlank, IsOffered, IsTaken, IsWritten, Sheet, Waits, cell_of, is_lower, is_this, is_waiting, times}
 use Rattle.assign_table.proofs.ArenaLaws.{IsNewAt, block-none, push-cases, push-kept, push-last, states_of-push}
 use Rattle.assign_table.proofs.SheetLaws.{cell_with, is_waiting-itself, one_where, settled_with, times-none, times-pushed}
 use Rattle.assign_table.proofs.StateLaws.{cell_of-apart, cell_of-written, state_eq-equivalence}
 
 -- what waits after a state is written
-abbrev put : State → ℕ → Reverse Waiting
-put st label = record { 0 = record { label = label; state = st } }
+abbrev put : State → ℕ → Waits
+put st label = record { label = label; state = st }
 
 -- a label that is lower than that of a cell
 lower-label : (label : ℕ) (found : Option Cell) (cell : Cell) → is_lower label found ≡ true → found ≡ Some cell → label < cell.label

@@ -17,7 +17,7 @@ use Rattle.extended_plan.specs.Job.{IsStateAt}
 use Rattle.extended_plan.specs.Ready.{IsReady}
 use Rattle.extended_plan.specs.Setting.{Setting}
 use Rattle.extended_plan.specs.States.{IsReached, state_eq}
-use Rattle.assign_table.specs.declared.table.Cell.{Cell}
+use Rattle.assign_table.specs.declared.cell.Cell.{Cell}
 use Rattle.assign_table.specs.declared.way.Settled.{Settled}
 use Rattle.assign_table.specs.declared.way.Way.{Way}
 use Rattle.assign_table.specs.declared.way.Way.TheVariants as way

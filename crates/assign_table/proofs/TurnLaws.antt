@@ -15,7 +15,7 @@ use Rattle.extended_plan.specs.declared.state.State.{State}
 use Rattle.extended_plan.specs.Gains.{Gain, dec_gain, enc_gain, send_gain}
 use Rattle.extended_plan.specs.Setting.{Setting}
 use Rattle.extended_plan.specs.States.{state_eq}
-use Rattle.assign_table.specs.declared.table.Cell.{Cell}
+use Rattle.assign_table.specs.declared.cell.Cell.{Cell}
 use Rattle.assign_table.specs.declared.way.Settled.{Settled}
 use Rattle.assign_table.specs.inside.Blocks.{AreApart, IsFrom, IsSettled}
 use Rattle.assign_table.specs.inside.Order.{IsAtRest, IsListedOn, IsOrdered, IsSettledFrom, states_of}
@@ -175,6 +175,14 @@ underway-more s n room before start arena old longer new underway turn = record 
         closed-later s n old.cells new.cells e.state e.label turn.lower (underway.closed place e after there)
     closed place e after (inr last) = subst (λ (f : Settled). IsClosedOn s n new.cells f.state f.label) (sym last.new) turn.closed
 
+-- no more states are settled than there is room for
+pub underway-few : (s : Setting) (n room : ℕ) (before : List Settled) (start : Sheet) (arena : List Settled) (sheet : Sheet)
+    → IsUnderway s n room before start arena sheet → length arena ≤ length before + room
+underway-few s n room before start arena sheet underway =
+    let few : length arena ≤ length before + length sheet.cells = block-few (length before) arena sheet underway.front underway.ordered in
+    let within : length sheet.cells ≤ room = underway.within in
+    omega arith
+
 -- each turn settles one more, of at most so many
 pub underway-smaller : (s : Setting) (n room : ℕ) (before : List Settled) (start : Sheet) (arena : List Settled) (old : Sheet)
     (longer : List Settled) (new : Sheet) → IsUnderway s n room before start arena old → IsTurned s n room arena old longer new
@@ -182,8 +190,7 @@ pub underway-smaller : (s : Setting) (n room : ℕ) (before : List Settled) (sta
 underway-smaller s n room before start arena old longer new underway turn =
     let more : IsUnderway s n room before start longer new =
     underway-more s n room before start arena old longer new underway turn in
-    let few : length longer ≤ length before + length new.cells = block-few (length before) longer new more.front more.ordered in
-    let within : length new.cells ≤ room = more.within in
+    let few : length longer ≤ length before + room = underway-few s n room before start longer new more in
     let one : length longer ≡ length arena + 1 = ap length turn.pushed ∙ length_push arena turn.settled in
     omega arith
 

@@ -101,7 +101,10 @@ fn offer_one(
     match after_step(gate.job, gate.node, &step, &from.state, None) {
         None => Ok(()),
         Some((state, cost)) => {
-            let way = Way::One { step, operand: at };
+            let way = Way::One {
+                step,
+                operand: at as u32,
+            };
             offer_arrival(gate, state, label_after(from.label, cost), way, table, room)
         }
     }
@@ -122,5 +125,5 @@ pub fn offer_arrival(
     ensures listed { OnOk result (IsListedOn (sheet_of table.new).cells state label) }
     ensures crowded { result ≡ Err Full → IsCrowdedAt gate.entry room }
 {
-    table.offer(state, label, way, room)
+    table.offer(&state, label, way, room)
 }

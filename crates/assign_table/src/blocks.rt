@@ -36,17 +36,19 @@ pub fn settle_nodes(
     ensures too_many { (n : NodeId) → result ≡ Err (TooManyStates n) → IsFirstTooMany (setting_of job.now) n.0 }
     ensures in_range { result ≡ Err CostRange → ⊥ }
 {
+    let mut table = Table::new(alloc);
     'nodes: for node in 0..job.facts.node_count() {
-        settle_node(alloc, job, NodeId(node as u8), settled, starts)?;
+        settle_node(alloc, job, NodeId(node as u8), &mut table, settled, starts)?;
     }
     Ok(())
 }
 
-// Settles the states of a node behind those of the nodes before it, and tells where its block ends.
+// Settles the states of a node behind those of the nodes before it, and tells where its block ends. The table lends its memory.
 fn settle_node(
     alloc: Global,
     job: &Job<'_>,
     node: NodeId,
+    table: &mut Table,
     settled: &mut Vec<Settled>,
     starts: &mut Vec<usize>,
 ) -> Result<(), SearchNo>
@@ -57,7 +59,7 @@ fn settle_node(
     ensures in_range { result ≡ Err CostRange → ⊥ }
 {
     let room = MOST_STATES - settled.len();
-    match settle_block(alloc, job, node, room, starts.as_slice(), settled) {
+    match settle_block(alloc, job, node, table, room, starts.as_slice(), settled) {
         Ok(()) => {
             starts.push(settled.len())?;
             Ok(())
@@ -72,6 +74,7 @@ fn settle_block(
     alloc: Global,
     job: &Job<'_>,
     node: NodeId,
+    table: &mut Table,
     room: usize,
     starts: &[usize],
     settled: &mut Vec<Settled>,
@@ -82,13 +85,13 @@ fn settle_block(
     ensures done { OnOk result (AreDone (setting_of job.now) settled.new.items (starts.now ++ length settled.new.items ∷ []) (node.0 + 1)) }
     ensures full { result ≡ Err Full → IsCrowded (setting_of job.now) node.0 room }
 {
-    let mut table = Table::new(alloc);
+    table.clear();
     let gate = Gate {
         job,
         node,
         settled: settled.as_slice(),
         starts,
     };
-    arrive(alloc, gate, &mut table, room)?;
-    settle_all(job, node, &mut table, room, settled)
+    arrive(alloc, gate, table, room)?;
+    settle_all(job, node, table, room, settled)
 }

@@ -6,6 +6,7 @@
 mod answer;
 mod arrive;
 mod blocks;
+mod cell;
 mod gate;
 mod goal;
 mod labels;

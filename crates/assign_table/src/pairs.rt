@@ -251,7 +251,11 @@ fn offer_pair(
         None => Ok(()),
         Some((state, cost)) => {
             let label = label_after(label_after(first.label, second.label), cost);
-            let way = Way::Two { node, left, right };
+            let way = Way::Two {
+                node,
+                left: left as u32,
+                right: right as u32,
+            };
             offer_arrival(gate, state, label, way, table, room)
         }
     }

@@ -1,6 +1,8 @@
-ghost use Rattle.std.specs.Prelude.{◌≡◌, ◌+◌, ◌≤◌, ◌<◌, Err, IfOk, IfSome, None, OnOk, length};
+ghost use Rattle.std.specs.Prelude.{◌≡◌, ◌+◌, ◌≤◌, ◌<◌, Err, IfOk, IfSome, None, OnOk, length, if◌then◌else◌};
+ghost use Rattle.base_laws.specs.Sets.{has};
 ghost use Rattle.mq_base.specs.declared.ids.AttrId.{AttrId};
 ghost use Rattle.mq_base.specs.declared.ids.SubjectId.{SubjectId};
+ghost use Rattle.mq_base.specs.declared.plan.Step.TheVariants as step;
 ghost use Rattle.cost_model.specs.Costs.{cut};
 ghost use Rattle.extended_plan.specs.Gains.{send_gain, step_gain};
 ghost use Rattle.extended_plan.specs.Job.{IsStateAt, setting_of};
@@ -11,8 +13,8 @@ ghost use Rattle.assign_table.specs.inside.Sheet.{sheet_of};
 
 use crate::table::{Table, TableNo};
 use crate::way::{Settled, Way};
-use extended_plan::{Job, after_step};
-use mq_base::{AttrId, NodeId, Step, SubjectId};
+use extended_plan::{Job, State, after_step};
+use mq_base::{AttrId, AttrSet, NodeId, Step, SubjectId};
 
 /// Settles what was offered at a node, and all that encryptions, decryptions and sends gain from it: each state once, behind what the
 /// arena has, with a label that none of these steps lowers and a way that has it. docs/MODEL.md, "Search".
@@ -30,6 +32,7 @@ pub fn settle_all(
     requires ordered { IsOrdered (length arena.old.items) arena.old.items (sheet_of table.old) 0 }
     requires known { AreKnown (setting_of job.now) node.0 (sheet_of table.old) }
     requires within { length (sheet_of table.old).cells ≤ room }
+    requires few { room + length arena.old.items ≤ 200000 }
     ensures done { OnOk result (IsDone (setting_of job.now) node.0 room arena.old.items (sheet_of table.old) arena.new.items) }
     ensures full { result ≡ Err Full → ShowsCrowdOver (setting_of job.now) node.0 room arena.old.items (sheet_of table.old) }
 {
@@ -50,13 +53,14 @@ fn settle_next(
 ) -> Result<bool, TableNo>
     requires node { node.0 < length (setting_of job.now).basis.nodes }
     requires known { AreKnown (setting_of job.now) node.0 (sheet_of table.old) }
+    requires few { length arena.old.items ≤ 200000 }
     ensures turn { IfOk result (λ more. IsTurn (setting_of job.now) node.0 room more arena.old.items (sheet_of table.old) arena.new.items (sheet_of table.new)) }
     ensures full { result ≡ Err Full → ShowsCrowdFrom (setting_of job.now) node.0 room arena.old.items (sheet_of table.old) }
 {
     let Some(settled) = table.take() else {
         return Ok(false);
     };
-    let at = arena.len();
+    let at = arena.len() as u32;
     arena.push(settled)?;
     offer_steps(job, node, table, room, at, &settled)?;
     Ok(true)
@@ -68,7 +72,7 @@ fn offer_steps(
     node: NodeId,
     table: &mut Table,
     room: usize,
-    at: usize,
+    at: u32,
     from: &Settled,
 ) -> Result<(), TableNo>
     requires node { node.0 < length (setting_of job.now).basis.nodes }
@@ -87,7 +91,7 @@ fn offer_crypts(
     node: NodeId,
     table: &mut Table,
     room: usize,
-    at: usize,
+    at: u32,
     from: &Settled,
 ) -> Result<(), TableNo>
     requires node { node.0 < length (setting_of job.now).basis.nodes }
@@ -96,12 +100,10 @@ fn offer_crypts(
     ensures tried { OnOk result ((a : AttrId) → AreCryptsListed (setting_of job.now) node.0 a (sheet_of table.new).cells from.now) }
     ensures full { result ≡ Err Full → ShowsCrowd (setting_of job.now) node.0 room at from.now (sheet_of table.old) }
 {
-    let visible = job.facts.visible(node);
-    'attributes: for a in 0..64 {
-        if !visible.has(AttrId(a)) {
-            continue;
-        }
-        offer_crypt(job, node, table, room, at, from, AttrId(a))?;
+    let mut left = job.facts.visible(node);
+    'attributes: while let Some(a) = left.first() {
+        offer_crypt(job, node, table, room, at, from, a)?;
+        left = left.difference(AttrSet::of(a));
     }
     Ok(())
 }
@@ -112,28 +114,40 @@ fn offer_crypt(
     node: NodeId,
     table: &mut Table,
     room: usize,
-    at: usize,
+    at: u32,
     from: &Settled,
     a: AttrId,
 ) -> Result<(), TableNo>
     requires node { node.0 < length (setting_of job.now).basis.nodes }
     requires known { IsStateAt (setting_of job.now) node.0 from.now.state }
+    requires small { a.0 < 64 }
     ensures continues { OnOk result (Continues (setting_of job.now) node.0 room at from.now (sheet_of table.old) (sheet_of table.new)) }
     ensures tried { OnOk result (AreCryptsListed (setting_of job.now) node.0 a (sheet_of table.new).cells from.now) }
     ensures full { result ≡ Err Full → ShowsCrowd (setting_of job.now) node.0 room at from.now (sheet_of table.old) }
 {
-    offer_step(job, node, table, room, at, from, Step::Enc(a))?;
-    offer_step(job, node, table, room, at, from, Step::Dec(a))
+    let step = crypt_of(&from.state, a);
+    offer_step(job, node, table, room, at, from, step)
 }
 
-// Offers what a send to each subject gains from a settled state. A policy has at most 16 subjects, and a send to another one gains
-// nothing.
+// The decryption of an attribute that is encrypted in a state, and the encryption of another. The other step gains nothing.
+fn crypt_of(state: &State, a: AttrId) -> Step
+    requires { a.0 < 64 }
+    ensures { result ≡ (if has state.now.view.enc.0 a.0 then step.Dec a else step.Enc a) }
+{
+    if state.view.enc.has(a) {
+        Step::Dec(a)
+    } else {
+        Step::Enc(a)
+    }
+}
+
+// Offers what a send to each subject gains from a settled state.
 fn offer_sends(
     job: &Job<'_>,
     node: NodeId,
     table: &mut Table,
     room: usize,
-    at: usize,
+    at: u32,
     from: &Settled,
 ) -> Result<(), TableNo>
     requires node { node.0 < length (setting_of job.now).basis.nodes }
@@ -142,8 +156,10 @@ fn offer_sends(
     ensures tried { OnOk result ((to : SubjectId) → IfSome (send_gain (setting_of job.now) node.0 to from.now.state) (IsGainListed (sheet_of table.new).cells from.now.label)) }
     ensures full { result ≡ Err Full → ShowsCrowd (setting_of job.now) node.0 room at from.now (sheet_of table.old) }
 {
-    'subjects: for to in 0..16 {
-        offer_step(job, node, table, room, at, from, Step::Send(SubjectId(to)))?;
+    let subjects = job.policy.subjects.as_slice();
+    'subjects: for to in 0..subjects.len() {
+        let step = Step::Send(SubjectId(to as u8));
+        offer_step(job, node, table, room, at, from, step)?;
     }
     Ok(())
 }
@@ -154,7 +170,7 @@ fn offer_step(
     node: NodeId,
     table: &mut Table,
     room: usize,
-    at: usize,
+    at: u32,
     from: &Settled,
     step: Step,
 ) -> Result<(), TableNo>
@@ -169,7 +185,7 @@ fn offer_step(
         None => Ok(()),
         Some((state, cost)) => {
             let way = Way::One { step, operand: at };
-            table.offer(state, label_after(from.label, cost), way, room)
+            table.offer(&state, label_after(from.label, cost), way, room)
         }
     }
 }

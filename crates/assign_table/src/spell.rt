@@ -47,12 +47,12 @@ fn tell(
         Way::Leaf(table) => told.push(Step::Base(table))?,
         Way::One { step, operand } => {
             told.push(step)?;
-            ways.push(settled[operand].way)?;
+            ways.push(settled[operand as usize].way)?;
         }
         Way::Two { node, left, right } => {
             told.push(Step::Bin(node))?;
-            ways.push(settled[left].way)?;
-            ways.push(settled[right].way)?;
+            ways.push(settled[left as usize].way)?;
+            ways.push(settled[right as usize].way)?;
         }
     }
     Ok(())

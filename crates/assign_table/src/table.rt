@@ -1,3 +1,10 @@
+ghost use Rattle.std.specs.Prelude.{◌<◌, length};
+ghost use Rattle.std.specs.BinaryHeap.{IsHeap, heap_items};
+ghost use Rattle.std.specs.List.{All};
+ghost use Rattle.std.proofs.Props.{props};
+ghost use Rattle.assign_table.specs.inside.Queue.{place_cmp};
+
+use crate::cell::{Cell, Waiting};
 use crate::way::{Settled, Way};
 use extended_plan::State;
 use indexmap::IndexMap;
@@ -5,20 +12,6 @@ use mq_base::NoMemory;
 use std::alloc::{AllocError, AllocFailed, Global};
 use std::cmp::Reverse;
 use std::collections::BinaryHeap;
-
-/// What a table has for a state: its least label so far, cut at 2^128 - 1, and the way that gave it.
-#[derive(Clone, Copy, Debug, PartialEq, Eq)]
-pub struct Cell {
-    pub label: u128,
-    pub way: Way,
-}
-
-/// A state that waits, and the label that it had when it began to wait. It is ordered by label, and then by state.
-#[derive(Clone, Copy, Debug, PartialEq, Eq, PartialOrd, Ord)]
-pub struct Waiting {
-    pub label: u128,
-    pub state: State,
-}
 
 /// Why a table takes no state.
 #[derive(Clone, Copy, Debug, PartialEq, Eq)]
@@ -69,12 +62,18 @@ impl From<NoMemory> for TableNo {
 pub struct Table {
     cells: IndexMap<State, Cell>,
     queue: BinaryHeap<Reverse<Waiting>>,
+    ghost placed: { All (λ w. w.0.place < length cells.entries) (heap_items queue) },
+    ghost heaped: { IsHeap place_cmp (heap_items queue) } by { Prim.hlevel props },
 }
 
 impl Table {
-    ghost use Rattle.std.specs.Prelude.{◌≡◌, ◌+◌, ◌≤◌, Err, OnOk, MatchOption, is_some, length, option_map, if◌then◌else◌};
+    ghost use Rattle.std.specs.Prelude.{◌≡◌, ◌+◌, ◌≤◌, ◌<◌, Err, None, OnOk, MatchOption, Some, length};
+    ghost use Rattle.std.specs.List.{IsDistinct, position};
+    ghost use Rattle.std.specs.Map.{keys_of};
+    ghost use Rattle.extended_plan.specs.declared.state.State.{State};
+    ghost use Rattle.extended_plan.specs.States.{state_eq};
     ghost use Rattle.assign_table.specs.declared.table.TableNo.TheVariants.{Full};
-    ghost use Rattle.assign_table.specs.inside.Sheet.{IsBlank, IsDrained, IsOffered, IsRefused, IsTaken, IsWritten, cell_of, fresh_of, sheet_of};
+    ghost use Rattle.assign_table.specs.inside.Sheet.{IsBlank, IsDrained, IsOffered, IsRefused, IsTaken, IsWritten, cell_of, fresh_of, sheet_of, state_at, waits_at};
 
     /// A table with no state. It takes no memory.
     pub fn new(alloc: Global) -> Table
@@ -86,55 +85,75 @@ impl Table {
         }
     }
 
+    /// Leaves the table with no state. It keeps its memory.
+    pub fn clear(&mut self)
+        ensures { IsBlank (sheet_of self.new) }
+    {
+        self.queue.clear();
+        self.cells.clear();
+    }
+
     /// Offers a state that is reached at a cost, by a way. Where the state is new, or had a higher label, it has this label and
-    /// this way, and waits. The time is that of a look-up, an insertion and a push.
+    /// this way, and waits. The time is that of a look-up, and of an insertion and a push where the table changes.
     ///
     /// `Full` where the state is new and the table has `room` states, which it keeps as they are; `NoMemory` where the allocator
     /// refused a request.
-    pub fn offer(&mut self, state: State, label: u128, way: Way, room: usize) -> Result<(), TableNo>
-        ensures offered { OnOk result (IsOffered (sheet_of self.old) state label way (sheet_of self.new)) }
+    pub fn offer(
+        &mut self,
+        state: &State,
+        label: u128,
+        way: Way,
+        room: usize,
+    ) -> Result<(), TableNo>
+        ensures offered { OnOk result (IsOffered (sheet_of self.old) state.now label way (sheet_of self.new)) }
         ensures within { OnOk result (length (sheet_of self.old).cells ≤ room → length (sheet_of self.new).cells ≤ room) }
-        ensures refused { result ≡ Err Full → IsRefused room (sheet_of self.old) state }
+        ensures refused { result ≡ Err Full → IsRefused room (sheet_of self.old) state.now }
         ensures kept { result ≡ Err Full → sheet_of self.new ≡ sheet_of self.old }
     {
-        match self.label_of(&state) {
-            Some(own) => {
-                if own <= label {
-                    Ok(())
-                } else {
-                    self.write(state, label, way)
-                }
-            }
+        match self.cells.get_index_of(state) {
+            Some(place) => self.offer_at(place, label, way),
             None => {
                 if room <= self.cells.len() {
                     Err(TableNo::Full)
                 } else {
-                    self.write(state, label, way)
+                    self.add(*state, label, way)
                 }
             }
         }
     }
 
-    // The label of a state, where the table has it.
-    fn label_of(&self, state: &State) -> Option<u128>
-        ensures { result ≡ option_map (λ cell. cell.label) (cell_of (sheet_of self.now).cells state.now) }
-    {
-        Some(self.cells.get(state)?.label)
-    }
-
-    // Gives a state a label and a way, and lets it wait.
-    fn write(&mut self, state: State, label: u128, way: Way) -> Result<(), TableNo>
-        ensures written { OnOk result (IsWritten (sheet_of self.old) state label way (sheet_of self.new)) }
-        ensures longer { OnOk result (length (sheet_of self.new).cells ≡ length (sheet_of self.old).cells + (if is_some (cell_of (sheet_of self.old).cells state) then 0 else 1)) }
+    // Offers a label and a way to the state at a place.
+    fn offer_at(&mut self, place: usize, label: u128, way: Way) -> Result<(), TableNo>
+        requires place { place < length (sheet_of self.old).cells }
+        requires distinct { IsDistinct state_eq (keys_of (sheet_of self.old).cells) }
+        ensures offered { (st : State) → position (state_eq st) (keys_of (sheet_of self.old).cells) ≡ Some place
+            → OnOk result (IsOffered (sheet_of self.old) st label way (sheet_of self.new)) }
+        ensures as_long { OnOk result (length (sheet_of self.new).cells ≡ length (sheet_of self.old).cells) }
         ensures not_full { result ≡ Err Full → ⊥ }
     {
-        self.cells.insert(state, Cell { label, way })?;
-        self.queue.push(Reverse(Waiting { label, state }))?;
+        if self.cells[place].label <= label {
+            return Ok(());
+        }
+        self.cells[place] = Cell { label, way };
+        self.queue.push(Reverse(Waiting { label, place }))?;
         Ok(())
     }
 
-    /// Takes the least that waits, with its label and its way; what is stale is dropped. The time is that of a look-up and of a
-    /// pop for each that is dropped or taken, and it takes no memory.
+    // Gives a new state a label and a way, and lets it wait.
+    fn add(&mut self, state: State, label: u128, way: Way) -> Result<(), TableNo>
+        requires new { cell_of (sheet_of self.old).cells state ≡ None }
+        ensures written { OnOk result (IsWritten (sheet_of self.old) state label way (sheet_of self.new)) }
+        ensures longer { OnOk result (length (sheet_of self.new).cells ≡ length (sheet_of self.old).cells + 1) }
+        ensures not_full { result ≡ Err Full → ⊥ }
+    {
+        let place = self.cells.len();
+        self.cells.insert(state, Cell { label, way })?;
+        self.queue.push(Reverse(Waiting { label, place }))?;
+        Ok(())
+    }
+
+    /// Takes the least that waits, with its label and its way; what is stale is dropped. The time is that of a pop for each that is
+    /// dropped or taken, and it takes no memory.
     pub fn take(&mut self) -> Option<Settled>
         ensures { MatchOption result (IsDrained (sheet_of self.old) (sheet_of self.new)) (λ e. IsTaken (sheet_of self.old) e (sheet_of self.new)) }
     {
@@ -152,12 +171,13 @@ impl Table {
 
     // The settled state of one that waited, where it is not stale.
     fn current(&self, waiting: &Waiting) -> Option<Settled>
-        ensures { result ≡ fresh_of waiting.now (cell_of (sheet_of self.now).cells waiting.now.state) }
+        requires { waiting.now.place < length (sheet_of self.now).cells }
+        ensures { result ≡ fresh_of (waits_at (keys_of (sheet_of self.now).cells) (record { 0 = waiting.now })) (cell_of (sheet_of self.now).cells (state_at (keys_of (sheet_of self.now).cells) waiting.now.place)) }
     {
-        let cell = self.cells.get(&waiting.state)?;
+        let (state, cell) = self.cells.get_index(waiting.place)?;
         if cell.label == waiting.label {
             Some(Settled {
-                state: waiting.state,
+                state: *state,
                 label: cell.label,
                 way: cell.way,
             })

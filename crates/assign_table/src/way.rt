@@ -1,22 +1,15 @@
 use extended_plan::State;
 use mq_base::{NodeId, Step, TableId};
 
-/// How a state was reached. Operands are places of the arena of settled states, before one's own.
+/// How a state was reached. Operands are places of the arena of settled states, before one's own; it has at most 200,000.
 #[derive(Clone, Copy, Debug, PartialEq, Eq)]
 pub enum Way {
     /// As the leaf of a table.
     Leaf(TableId),
     /// By a step on the state at a place: an encryption, a decryption, a send, or a node's operation on one operand.
-    One {
-        step: Step,
-        operand: usize,
-    },
+    One { step: Step, operand: u32 },
     /// By a node's operation on the states at two places.
-    Two {
-        node: NodeId,
-        left: usize,
-        right: usize,
-    },
+    Two { node: NodeId, left: u32, right: u32 },
 }
 
 /// A state that no longer waits, with its final label and the way in which it was reached.

@@ -97,7 +97,9 @@ pub fn after_step(
     ensures within { IfSome result (λ gain. IsStateAt (setting_of job.now) node.0 gain.0) }
     ensures answers { result ≡ option_map told (step_gain (setting_of job.now) node step.now first.now (option_map (λ s. s.now) second.entry)) }
 {
-    let state = run_step(job, node, step, first, second)?;
+    // Put together from its parts, the state is not copied with the bytes between them, for which the next read would wait.
+    let State { holder, view } = run_step(job, node, step, first, second)?;
+    let state = State { holder, view };
     if !may_hold(job, node, &state) {
         return None;
     }

@@ -11,7 +11,7 @@ use Rattle.extended_plan.specs.Gains.{Gain, leaf_gain, one_gain, two_gain}
 use Rattle.extended_plan.specs.Job.{setting_of}
 use Rattle.extended_plan.specs.Setting.{Setting, kind_at, leaf_of, op_at}
 use Rattle.assign_table.specs.declared.gate.Gate.{Gate}
-use Rattle.assign_table.specs.declared.table.Cell.{Cell}
+use Rattle.assign_table.specs.declared.cell.Cell.{Cell}
 use Rattle.assign_table.specs.declared.way.Settled.{Settled}
 use Rattle.assign_table.specs.declared.way.Way.{Way}
 use Rattle.assign_table.specs.inside.Blocks.{AreDone, IsFrom, IsPlaceOf, base_of, start_of}

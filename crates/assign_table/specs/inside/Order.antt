@@ -5,7 +5,7 @@ use Rattle.std.specs.BinaryHeap.{IsHeap}
 use Rattle.std.specs.List.{IsDistinct}
 use Rattle.extended_plan.specs.declared.state.State.{State}
 use Rattle.extended_plan.specs.States.{state_eq}
-use Rattle.assign_table.specs.declared.table.Cell.{Cell}
+use Rattle.assign_table.specs.declared.cell.Cell.{Cell}
 use Rattle.assign_table.specs.declared.way.Settled.{Settled}
 use Rattle.assign_table.specs.inside.Sheet.{Sheet, cell_of, times, waiting_cmp}
 

@@ -13,7 +13,7 @@ use Rattle.extended_plan.specs.Gains.{Gain, dec_gain, enc_gain, send_gain}
 use Rattle.extended_plan.specs.Job.{IsStateAt}
 use Rattle.extended_plan.specs.Setting.{Setting}
 use Rattle.extended_plan.specs.States.{IsReached, state_eq}
-use Rattle.assign_table.specs.declared.table.Cell.{Cell}
+use Rattle.assign_table.specs.declared.cell.Cell.{Cell}
 use Rattle.assign_table.specs.declared.way.Settled.{Settled}
 use Rattle.assign_table.specs.inside.Blocks.{AreApart, IsFrom, IsSettled}
 use Rattle.assign_table.specs.inside.Order.{IsListedOn, IsOrdered}

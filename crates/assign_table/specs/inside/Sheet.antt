@@ -1,45 +1,61 @@
 -- The table of a node as its calls see it: which states it has, with label and way, and which of them wait. docs/MODEL.md, "Search",
 -- tells it in prose.
-use Rattle.std.specs.Prelude.{◌≡◌, ℕ, ◌+◌, ◌≤◌, ◌<◌, ◌==◌, ◌&&◌, Bool, true, false, List, [], ◌∷◌, length, Option, Some, None, nat_lt, if◌then◌else◌}
+use Rattle.std.specs.Prelude.{◌≡◌, ℕ, ◌+◌, ◌≤◌, ◌<◌, ◌==◌, ◌&&◌, Bool, true, false, List, [], ◌∷◌, length, map, Option, Some, None, nat_lt, if◌then◌else◌, slice_index_or}
 use Rattle.std.specs.BinaryHeap.{IsHeap, KeepsHeap, heap_items}
 use Rattle.std.specs.List.{IsDistinct, count_by}
 use Rattle.std.specs.List.Sorted.{IsPermutation}
 use Rattle.std.specs.Map.{keys_of, lookup}
-use Rattle.std.specs.Ordering.{nat_cmp, ordering_then}
+use Rattle.std.specs.Ordering.{nat_cmp}
 use Rattle.std.specs.declared.cmp.Ordering.{Ordering}
 use Rattle.std.specs.declared.cmp.Reverse.{Reverse}
 use Rattle.indexmap.specs.IndexMap.{insert_entry}
 use Rattle.extended_plan.specs.declared.state.State.{State}
-use Rattle.extended_plan.specs.Certificate.{state_cmp}
 use Rattle.extended_plan.specs.States.{state_eq}
-use Rattle.assign_table.specs.declared.table.Cell.{Cell}
+use Rattle.assign_table.specs.declared.cell.Cell.{Cell}
 use Rattle.assign_table.specs.declared.table.Table.{Table}
-use Rattle.assign_table.specs.declared.table.Waiting.{Waiting}
+use Rattle.assign_table.specs.declared.cell.Waiting.{Waiting}
 use Rattle.assign_table.specs.declared.way.Settled.{Settled}
 use Rattle.assign_table.specs.declared.way.Way.{Way}
+
+-- a state that waits, with the label that it had when it began to wait
+pub record Waits : Type 0 where
+  pub label : ℕ
+  pub state : State
 
 -- the cells of a table, each with its state, and what waits, in no order
 pub record Sheet : Type 0 where
   pub cells : List (State × Cell)
-  pub queue : List (Reverse Waiting)
+  pub queue : List Waits
+
+-- the state at a place among states, where there is one
+abbrev pub state_at : List State → ℕ → State
+state_at states place = slice_index_or states place (record {
+  holder = record { 0 = 0 };
+  view = record { enc = record { 0 = 0 }; ip = record { 0 = 0 }; ie = record { 0 = 0 } };
+})
+
+-- what waits, where it tells its state by the place among these
+abbrev pub waits_at : List State → Reverse Waiting → Waits
+waits_at states waiting = record { label = waiting.0.label; state = state_at states waiting.0.place }
 
 abbrev pub sheet_of : Table → Sheet
-sheet_of table = record { cells = table.cells.entries; queue = heap_items table.queue }
+sheet_of table =
+    record { cells = table.cells.entries; queue = map (waits_at (keys_of table.cells.entries)) (heap_items table.queue) }
 
 -- the cell of a state, where there is one
 abbrev pub cell_of : List (State × Cell) → State → Option Cell
 cell_of cells st = lookup (state_eq st) cells
 
 -- whether what waits is this state with this label, and how many times it does
-abbrev pub is_waiting : State → ℕ → Reverse Waiting → Bool
-is_waiting st label waiting = state_eq st waiting.0.state && (label == waiting.0.label)
+abbrev pub is_waiting : State → ℕ → Waits → Bool
+is_waiting st label waits = state_eq st waits.state && (label == waits.label)
 
-unfoldable pub times : State → ℕ → List (Reverse Waiting) → ℕ
+unfoldable pub times : State → ℕ → List Waits → ℕ
 times st label queue = count_by (is_waiting st label) queue
 
--- the order of what waits, which has the least label last, and of one label the least state
-abbrev pub waiting_cmp : Reverse Waiting → Reverse Waiting → Ordering
-waiting_cmp x y = ordering_then (nat_cmp y.0.label x.0.label) (state_cmp y.0.state x.0.state)
+-- the order of what waits, which has the least label last
+abbrev pub waiting_cmp : Waits → Waits → Ordering
+waiting_cmp x y = nat_cmp y.label x.label
 
 -- whether a label is lower than that of a cell; any is lower than none
 abbrev pub is_lower : ℕ → Option Cell → Bool
@@ -55,7 +71,7 @@ pub record IsBlank (sheet : Sheet) : Type 0 where
 -- a state was given a label and a way, and waits
 pub record IsWritten (old : Sheet) (st : State) (label : ℕ) (way : Way) (new : Sheet) : Type 0 where
   pub cells : new.cells ≡ insert_entry state_eq old.cells st (record { label = label; way = way })
-  pub queue : IsPermutation (record { 0 = record { label = label; state = st } } ∷ old.queue) new.queue
+  pub queue : IsPermutation (record { label = label; state = st } ∷ old.queue) new.queue
   pub heap : KeepsHeap waiting_cmp old.queue new.queue
   pub distinct : IsDistinct state_eq (keys_of new.cells)
 
@@ -70,10 +86,10 @@ pub record IsRefused (room : ℕ) (sheet : Sheet) (st : State) : Type 0 where
   pub full : room ≤ length sheet.cells
 
 -- a cell's settled state, where what waited has its label
-abbrev pub fresh_of : Waiting → Option Cell → Option Settled
-fresh_of waiting None = None
-fresh_of waiting (Some cell) =
-    if cell.label == waiting.label then Some (record { state = waiting.state; label = cell.label; way = cell.way }) else None
+abbrev pub fresh_of : Waits → Option Cell → Option Settled
+fresh_of waits None = None
+fresh_of waits (Some cell) =
+    if cell.label == waits.label then Some (record { state = waits.state; label = cell.label; way = cell.way }) else None
 
 -- no cell waits, and the cells are the old ones
 pub record IsDrained (old new : Sheet) : Type 0 where

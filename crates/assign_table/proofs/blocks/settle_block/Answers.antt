@@ -10,8 +10,8 @@ use Rattle.assign_table.proofs.blocks.settle_block.Goals as goal
 pub arrive-requires-clause-opened : goal.arrive-requires-clause-opened
 arrive-requires-clause-opened c =
     let gate : Gate = record { job = c.args.job; node = c.args.node; settled = c.as_slice.result; starts = c.args.starts } in
-    gathered-blank (setting_of c.args.job.now) c.args.node.0 (gate_base gate) c.args.room c.as_slice.result.now (sheet_of c.new-table.result)
-    c.new-table.ensures
+    gathered-blank (setting_of c.args.job.now) c.args.node.0 (gate_base gate) c.args.room c.as_slice.result.now (sheet_of c.clear.new.self)
+    c.clear.ensures
 
 pub returns-clause-done : goal.returns-clause-done
 returns-clause-done c =

@@ -1,4 +1,4 @@
-use Rattle.std.proofs.Common.{Err, ap, arith, sym, ◌∙◌}
+use Rattle.std.proofs.Common.{Err, ap, arith, length, sym, ◌∙◌}
 use Rattle.std.proofs.lemmas.Result.{err_from_is_err_and}
 use Rattle.extended_plan.specs.Job.{setting_of}
 use Rattle.assign_table.specs.declared.table.TableNo.{TableNo}
@@ -25,5 +25,5 @@ subjects-preserved c = (
 
 pub returns-clause-tried : goal.returns-clause-tried
 returns-clause-tried c =
-    subjects-all (setting_of c.args.job.now) c.args.job.now.ready c.args.node.0 c.args.from.now (sheet_of c.subjects.table)
-    c.subjects.to (omega arith) c.subjects.invariant.1
+    subjects-all (setting_of c.args.job.now) c.args.node.0 c.args.from.now (sheet_of c.subjects.table) c.subjects.to
+    (omega (arith, c.subjects-test.false, ap length c.as_slice-subjects.ensures)) c.subjects.invariant.1

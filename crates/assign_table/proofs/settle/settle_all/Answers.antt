@@ -1,10 +1,10 @@
-use Rattle.std.proofs.Common.{◌≡◌, Err, ap, sym, ◌∙◌}
+use Rattle.std.proofs.Common.{◌≡◌, Err, ap, arith, sym, ◌∙◌}
 use Rattle.std.proofs.lemmas.Result.{err_from_is_err_and}
 use Rattle.extended_plan.specs.Job.{setting_of}
 use Rattle.assign_table.specs.declared.table.TableNo.{TableNo}
 use Rattle.assign_table.specs.declared.table.TableNo.TheVariants.{Full}
 use Rattle.assign_table.specs.inside.Sheet.{sheet_of}
-use Rattle.assign_table.proofs.TurnLaws.{crowd-underway, turn-last, turn-more, underway-more, underway-smaller, underway-start}
+use Rattle.assign_table.proofs.TurnLaws.{crowd-underway, turn-last, turn-more, underway-few, underway-more, underway-smaller, underway-start}
 use Rattle.assign_table.proofs.settle.settle_all.Goals as goal
 
 pub turns-init : goal.turns-init
@@ -42,3 +42,12 @@ turns-preserved c =
     (turn-more (setting_of c.args.job.now) c.args.node.0 c.args.room c.in_ok-settle_next.field-0 c.turns.arena.items
     c.settle_next.new.arena.items (sheet_of c.turns.table) (sheet_of c.settle_next.new.table) c.if-not-branch.false
     c.in_ok-settle_next.ensures.turn)
+
+pub settle_next-requires-clause-few : goal.settle_next-requires-clause-few
+settle_next-requires-clause-few c =
+    omega (
+      arith,
+      c.requires.few,
+      underway-few (setting_of c.args.job.now) c.args.node.0 c.args.room c.args.arena.now.items
+          (sheet_of c.args.table.now) c.turns.arena.items (sheet_of c.turns.table) c.turns.invariant,
+    )

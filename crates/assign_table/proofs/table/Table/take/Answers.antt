@@ -1,23 +1,49 @@
-use Rattle.std.proofs.Common.{arith, heap_items, refl, sym}
-use Rattle.assign_table.specs.inside.Sheet.{sheet_of}
+use Rattle.std.proofs.Common.{ap, arith, heap_items, length, map, refl, sym, ◌∙◌}
+use Rattle.std.proofs.lemmas.List.{length-map}
+use Rattle.std.specs.Map.{keys_of}
+use Rattle.assign_table.specs.inside.Sheet.{sheet_of, waits_at}
+use Rattle.assign_table.proofs.QueueLaws.{if_none, is_popped, still_heaped, still_placed, told}
 use Rattle.assign_table.proofs.SheetLaws.{drained-last, sifted-more, taken-first}
 use Rattle.assign_table.proofs.table.Table.take.Goals as goal
 
+pub invariant_of-self-clause-placed : goal.invariant_of-self-clause-placed
+invariant_of-self-clause-placed c =
+    still_placed (length c.sifting.self.cells.entries) (heap_items c.sifting.self.queue) (heap_items c.pop.new.self) c.pop.result
+    c.pop.ensures.permutation (if_none c.pop.result _ _ (λ same. same.0) c.pop.ensures.unchanged) c.sifting.self.placed
+
+pub invariant_of-self-clause-heaped : goal.invariant_of-self-clause-heaped
+invariant_of-self-clause-heaped c =
+    still_heaped (heap_items c.sifting.self.queue) (heap_items c.pop.new.self) c.pop.result c.pop.ensures.heap_order
+    (if_none c.pop.result _ _ (λ same. same.0) c.pop.ensures.unchanged) c.sifting.self.heaped
+
 pub returns-in-None : goal.returns-in-None
 returns-in-None c =
-    drained-last (sheet_of c.args.self.now) (sheet_of c.sifting.self)
-    (record { cells = c.sifting.self.cells.entries; queue = heap_items c.pop.new.self }) c.sifting.invariant refl
-    c.in-None.ensures.unchanged.0 (omega (arith, c.sifting.self.queue.data.ok.0, c.in-None.ensures.none))
+    let same = c.in-None.ensures.unchanged.0 in
+    let states = keys_of c.sifting.self.cells.entries in
+    drained-last (sheet_of c.args.self.now) (sheet_of c.sifting.self) (told c.sifting.self.cells.entries (heap_items c.pop.new.self))
+    c.sifting.invariant refl (ap (map (waits_at states)) same)
+    (length-map (heap_items c.sifting.self.queue) (waits_at states) ∙ omega (arith, c.sifting.self.queue.data.ok.0, c.in-None.ensures.none))
+
+pub current-requires : goal.current-requires
+current-requires c =
+    (is_popped c.sifting.self.cells.entries (heap_items c.sifting.self.queue) c.in-Some.field-0 (heap_items c.pop.new.self)
+    c.sifting.self.placed c.sifting.self.heaped c.in-Some.ensures.permutation c.in-Some.ensures.heap_order
+    c.in-Some.ensures.below_top).here
 
 pub returns-in-Some-current : goal.returns-in-Some-current
 returns-in-Some-current c =
-    taken-first (sheet_of c.args.self.now) (sheet_of c.sifting.self)
-    (record { cells = c.sifting.self.cells.entries; queue = heap_items c.pop.new.self }) c.in-Some.field-0 c.in-Some-current.settled
-    c.sifting.invariant refl c.in-Some.ensures.permutation c.in-Some.ensures.heap_order c.in-Some.ensures.below_top
-    (sym c.in-Some-current.ensures)
+    let popped =
+    is_popped c.sifting.self.cells.entries (heap_items c.sifting.self.queue) c.in-Some.field-0 (heap_items c.pop.new.self)
+    c.sifting.self.placed c.sifting.self.heaped c.in-Some.ensures.permutation c.in-Some.ensures.heap_order c.in-Some.ensures.below_top in
+    taken-first (sheet_of c.args.self.now) (sheet_of c.sifting.self) (told c.sifting.self.cells.entries (heap_items c.pop.new.self))
+    (waits_at (keys_of c.sifting.self.cells.entries) c.in-Some.field-0) c.in-Some-current.settled
+    c.sifting.invariant refl popped.moved popped.ordered (λ before. popped.least) (sym c.in-Some-current.ensures)
 
 pub sifting-preserved : goal.sifting-preserved
 sifting-preserved c =
-    sifted-more (sheet_of c.args.self.now) (sheet_of c.sifting.self)
-    (record { cells = c.sifting.self.cells.entries; queue = heap_items c.pop.new.self }) c.in-Some.field-0 c.sifting.invariant refl
-    c.in-Some.ensures.permutation (λ ordered. (c.in-Some.ensures.heap_order ordered).0) (sym c.in_default.ensures)
+    let popped =
+    is_popped c.sifting.self.cells.entries (heap_items c.sifting.self.queue) c.in-Some.field-0 (heap_items c.pop.new.self)
+    c.sifting.self.placed c.sifting.self.heaped c.in-Some.ensures.permutation c.in-Some.ensures.heap_order c.in-Some.ensures.below_top in
+    sifted-more (sheet_of c.args.self.now) (sheet_of c.sifting.self) (told c.sifting.self.cells.entries (heap_items c.pop.new.self))
+    (waits_at (keys_of c.sifting.self.cells.entries) c.in-Some.field-0) c.sifting.invariant refl
+    popped.moved (λ before. (popped.ordered before).0) (sym c.in_default.ensures)
