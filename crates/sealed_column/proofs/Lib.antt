@@ -1,6 +1,7 @@
 pub mod CellLaws
 mod Examples
 pub mod LockLaws
+pub mod MemoLaws
 pub mod OpenLaws
 pub mod RowLaws
 pub mod SealFacts

@@ -2,7 +2,6 @@
 use Rattle.std.proofs.Common.{◌≡◌, ℕ, suc, ◌+◌, ◌^◌, ◌<◌, ◌≤◌, List, [], ◌∷◌, ◌++◌, length, get_or, take, refl, sym, ◌∙◌, ap, subst, arith, IsTrue, ◌==◌}
 use Rattle.std.proofs.lemmas.Bool.{eqb-true}
 use Rattle.std.proofs.lemmas.Bool.Decides.{nat_tests}
-use Rattle.std.proofs.lemmas.List.{length-take-le}
 use Rattle.std.proofs.lemmas.List.Elements.{All-append, All-cons, All-head, All-nil, All-tail}
 use Rattle.std.specs.List.{All, AllZip}
 use Rattle.mq_base.specs.declared.table.Scheme.{Scheme}
@@ -31,13 +30,19 @@ sealed-push scheme key place row (first ∷ rest) value =
     (sealed-push scheme key place (row + 1) rest value
     ∙ ap (λ (n : ℕ). sealed_from scheme key place (row + 1) rest ++ seal scheme key place n value ∷ []) along)
 
+length-sealed_from : (scheme : Scheme) (key : List ℕ) (place row : ℕ) (values : List Value)
+    → length (sealed_from scheme key place row values) ≡ length values
+length-sealed_from scheme key place row [] = refl
+length-sealed_from scheme key place row (first ∷ rest) = ap suc (length-sealed_from scheme key place (row + 1) rest)
+
 -- the cells with that of one more row
 pub sealed_more : (scheme : Scheme) (key : List ℕ) (place i : ℕ) (values : List Value) (value : Value) (cell : List ℕ)
     (before after : List (List ℕ)) → i < length values → value ≡ get_or values i value
-    → before ≡ sealed_from scheme key place 0 (take i values) → cell ≡ seal scheme key place i value → after ≡ before ++ cell ∷ []
-    → after ≡ sealed_from scheme key place 0 (take (i + 1) values)
+    → before ≡ sealed_from scheme key place 0 (take i values) → cell ≡ seal scheme key place (length before) value
+    → after ≡ before ++ cell ∷ [] → after ≡ sealed_from scheme key place 0 (take (i + 1) values)
 sealed_more scheme key place i values value cell before after below read so_far is pushed =
-    let row : i ≡ 0 + length (take i values) = omega (arith, length-take-le i values (omega arith)) in
+    let row : length before ≡ 0 + length (take i values) =
+    omega (arith, ap length so_far, length-sealed_from scheme key place 0 (take i values)) in
     pushed
     ∙ ap (λ (cells : List (List ℕ)). cells ++ cell ∷ []) so_far
     ∙ ap (λ (c : List ℕ). sealed_from scheme key place 0 (take i values) ++ c ∷ []) (is ∙ ap (λ (n : ℕ). seal scheme key place n value) row)

@@ -1,16 +1,11 @@
 -- Opening: what is read from a block or a digit string is the value that has it, and what a cell is opened to is the value that
 -- it opens to. And what is kept of values and cells that were met before.
-use Rattle.std.proofs.Common.{◌≡◌, ℕ, zero, suc, ◌+◌, ◌-◌, ◌*◌, ◌/◌, ◌%◌, ◌^◌, ◌<◌, ◌≤◌, ℤ, pos, negsuc, Bool, true, false, cond, List, [], ◌∷◌, ◌++◌, length, map, replicate, take, Some, Result, Ok, Err, refl, sym, ◌∙◌, ap, subst, arith, add-one}
+use Rattle.std.proofs.Common.{◌≡◌, ℕ, zero, suc, ◌+◌, ◌-◌, ◌*◌, ◌/◌, ◌%◌, ◌^◌, ◌<◌, ◌≤◌, ℤ, pos, negsuc, List, [], ◌∷◌, ◌++◌, length, map, replicate, take, Result, Ok, Err, refl, sym, ◌∙◌, ap, arith, add-one}
 use Rattle.std.proofs.lemmas.Int.{to_z-of_z}
 use Rattle.std.proofs.lemmas.List.{length-take}
-use Rattle.std.specs.BTreeMap as tree
-use Rattle.std.specs.BTreeMap.{BTreeMap, Updates}
 use Rattle.std.specs.Int.{w128, cast_signed, cast_unsigned, from_be_bytes, to_be_bytes}
 use Rattle.std.specs.Int.RustNames.{FitsSigned}
-use Rattle.std.specs.Ordering.{is_eq}
 use Rattle.std.specs.Result.{IfOk}
-use Rattle.std.specs.declared.cmp.Ordering.{Ordering}
-use Rattle.std.specs.declared.cmp.Ordering.TheVariants.{Equal}
 use Rattle.cipher_feistel.specs.Feistel as feistel
 use Rattle.cipher_order.specs.Order as order
 use Rattle.cipher_order.specs.Order.{IsDigits}
@@ -24,10 +19,10 @@ use Rattle.mq_base.specs.declared.value.ValueType.{ValueType}
 use Rattle.mq_base.specs.declared.value.ValueType.TheVariants as type
 use Rattle.mq_base.specs.Bytes.{block_of, block_length, digits, digits_length, digits_of, int_block, shifted}
 use Rattle.mq_base.specs.Value.{type_of}
-use Rattle.sealed_column.proofs.SmallLaws.{short_test, tied}
+use Rattle.sealed_column.proofs.SmallLaws.{short_test}
 use Rattle.sealed_column.specs.Seal.{IsSealable}
 use Rattle.sealed_column.specs.SealLaws.{sealable_digits}
-use Rattle.sealed_column.specs.inside.Opening.{IsMemo, IsOpened, IsRead, undigits}
+use Rattle.sealed_column.specs.inside.Opening.{IsOpened, IsRead, undigits}
 
 -- what holds of each value of one kind holds of an answer
 pub if_ok : {A E : Type 0} {P Q : A → Type 0} (answer : Result A E) → ((a : A) → P a → Q a) → IfOk answer P → IfOk answer Q
@@ -180,36 +175,3 @@ ope_opened key cell spelt ty long undone value is = record {
       (ap (λ (n : ℕ). 2 * n) ((lengths_by_type v opens.sealable.fits.short).of_digits ∙ ap digits_length typed) ∙ sym long)
       (sealable_digits v opens.sealable) (sym opens.is_seal));
 }
-
--- ---- what is kept
-
--- one more member and what belongs to it
-pub memo_more : {A B : Type 0} (cmp : A → A → Ordering) → ((x y : A) → cmp x y ≡ Equal → x ≡ y) → (belongs : A → B → Type 0)
-    → (before after : BTreeMap A B) (k : A) (w : B) → Updates cmp before after k (Some w) → belongs k w
-    → IsMemo cmp belongs before → IsMemo cmp belongs after
-memo_more {A} {B} cmp ties belongs before after k w updates here memo =
-    record { kept = λ a b is. by_key a b (is_eq (cmp k a)) refl (sym (updates.0 a) ∙ is) }
-  where
-    by_key : (a : A) (b : B) (same : Bool) → same ≡ is_eq (cmp k a) → cond (is_eq (cmp k a)) (Some w) (tree.get cmp before a) ≡ Some b
-        → belongs a b
-    by_key a b true test is =
-        let value : Some w ≡ Some b = rw (← test) at is in
-        let kept : w ≡ b = cc in
-        subst (λ (x : A). belongs x b) (ties k a (tied (cmp k a) (sym test))) (subst (λ (y : B). belongs k y) kept here)
-    by_key a b false test is = memo.kept a b (rw (← test) at is)
-
--- so it is where copies of both were put
-pub memo_put : {A B : Type 0} (cmp : A → A → Ordering) → ((x y : A) → cmp x y ≡ Equal → x ≡ y) → (belongs : A → B → Type 0)
-    → (before after : BTreeMap A B) (k key : A) (w value : B) → key ≡ k → value ≡ w → Updates cmp before after key (Some value)
-    → belongs k w → IsMemo cmp belongs before → IsMemo cmp belongs after
-memo_put {A} {B} cmp ties belongs before after k key w value same_key same_value updates here memo =
-    memo_more cmp ties belongs before after key value updates
-    (subst (λ (a : A). belongs a value) (sym same_key) (subst (λ (b : B). belongs k b) (sym same_value) here)) memo
-
--- nothing is kept at first
-pub memo_none : {A B : Type 0} (cmp : A → A → Ordering) (belongs : A → B → Type 0) (memo : BTreeMap A B) → tree.IsEmpty memo
-    → IsMemo cmp belongs memo
-memo_none cmp belongs memo none = record { kept = λ a b is. absurd (nothing a b is) }
-  where
-    nothing : (a : _) (b : _) → tree.get cmp memo a ≡ Some b → ⊥
-    nothing a b is = let found = rw none at is in cc

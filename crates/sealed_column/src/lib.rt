@@ -5,6 +5,7 @@
 mod column;
 mod laws;
 mod lock;
+mod memo;
 mod open;
 mod pick;
 mod rows;

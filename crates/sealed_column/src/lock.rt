@@ -1,25 +1,23 @@
 //! Sealing and opening whole columns. Under the schemes whose cells depend on the value alone, each distinct value is sealed once,
 //! and each distinct cell opened once.
 
-ghost use Rattle.std.specs.Prelude.{◌≡◌, ◌<◌, List, length, IfErr, IfOk, OnOk};
+ghost use Rattle.std.specs.Prelude.{◌≡◌, ◌<◌, ◌++◌, ◌∷◌, [], List, length, IfErr, IfOk, OnOk};
 ghost use Rattle.std.specs.List.{All, AllZip};
-ghost use Rattle.std.specs.Cmp.Lexicographic.{slice_cmp};
-ghost use Rattle.std.specs.Ordering.{nat_cmp};
 ghost use Rattle.mq_base.specs.Bytes.{IsShort};
-ghost use Rattle.mq_base.specs.Value.{value_cmp};
 ghost use Rattle.mq_base.specs.declared.table.Scheme.TheVariants.{Rnd};
 ghost use Rattle.mq_base.specs.declared.value.Value.{Value};
 ghost use Rattle.sealed_column.specs.Cells.{OpenTo};
 ghost use Rattle.sealed_column.specs.Seal.{IsSealable, Opens, cell_length, seal, sealed_from};
-ghost use Rattle.sealed_column.specs.inside.Opening.{IsMemo, IsOpened, IsSealOf};
+ghost use Rattle.sealed_column.specs.inside.Opening.{IsMemo, IsOpened, IsSealOf, bytes_at, same_bytes, same_key, value_at};
 
 use crate::column::Column;
+use crate::memo::{Bytes, Key, key_of, row_told};
 use crate::open::open_value;
 use crate::seal::{is_sealable, seal_value};
 use crate::state::{CellState, Clear, Locked, SchemeKind};
 use mq_base::{NoMemory, Scheme, Seq, Text, Value, ValueType};
 use std::alloc::Global;
-use std::collections::BTreeMap;
+use std::collections::HashMap;
 
 impl Column<Clear> {
     /// Seals each value under a scheme and a key, as the value of its row at this step; each distinct value is sealed once where
@@ -89,58 +87,58 @@ pub(crate) fn seal_all(
     ensures sealed { IfOk result (λ cells. cells.items ≡ sealed_from scheme key.now step 0 values.now) }
     ensures sealable { OnOk result (All IsSealable values.now) }
 {
-    let mut memo = BTreeMap::new(alloc);
+    let mut memo = HashMap::new(alloc);
     let mut cells = Vec::new(alloc);
-    for (row, value) in values.iter().enumerate() {
-        cells.push(seal_row(alloc, scheme, key, step, row as u64, value, &mut memo)?)?;
+    for value in values {
+        let cell = seal_row(alloc, scheme, key, step, value, cells.as_slice(), &mut memo)?;
+        cells.push(cell)?;
     }
     Ok(cells)
 }
 
-// The cell of the value of a row.
-fn seal_row(
+// The cell of the value of the row after those of these cells.
+fn seal_row<'a>(
     alloc: Global,
     scheme: Scheme,
     key: &[u8; 32],
     step: u32,
-    row: u64,
-    value: &Value,
-    memo: &mut BTreeMap<Value, Text>,
+    value: &'a Value,
+    cells: &[Text],
+    memo: &mut HashMap<Key<'a>, usize>,
 ) -> Result<Text, NoMemory>
     requires short { IsShort value.now }
-    requires memo { IsMemo value_cmp (IsSealOf scheme key.now) memo.old }
-    ensures sealed { IfOk result (λ cell. cell ≡ seal scheme key.now step row value.now) }
+    requires memo { IsMemo same_key value_at (IsSealOf scheme key.now) cells.now memo.old }
+    ensures sealed { IfOk result (λ cell. cell ≡ seal scheme key.now step (length cells.now) value.now) }
     ensures sealable { IsSealable value.now }
-    ensures kept { OnOk result (IsMemo value_cmp (IsSealOf scheme key.now) memo.new) }
+    ensures kept { IfOk result (λ cell. IsMemo same_key value_at (IsSealOf scheme key.now) (cells.now ++ cell ∷ []) memo.new) }
 {
     is_sealable(value);
     match scheme {
-        Scheme::Rnd => seal_value(alloc, scheme, key, step, row, value),
-        _ => seal_once(alloc, scheme, key, value, memo),
+        Scheme::Rnd => seal_value(alloc, scheme, key, step, cells.len() as u64, value),
+        _ => seal_once(alloc, scheme, key, value, cells, memo),
     }
 }
 
-// The cell of a value, looked up where the value was met before.
-fn seal_once(
+// The cell of a value, copied where the value was met before.
+fn seal_once<'a>(
     alloc: Global,
     scheme: Scheme,
     key: &[u8; 32],
-    value: &Value,
-    memo: &mut BTreeMap<Value, Text>,
+    value: &'a Value,
+    cells: &[Text],
+    memo: &mut HashMap<Key<'a>, usize>,
 ) -> Result<Text, NoMemory>
     requires fixed { scheme ≡ Rnd → ⊥ }
     requires short { IsShort value.now }
-    requires memo { IsMemo value_cmp (IsSealOf scheme key.now) memo.old }
+    requires memo { IsMemo same_key value_at (IsSealOf scheme key.now) cells.now memo.old }
     ensures sealed { IfOk result (IsSealOf scheme key.now value.now) }
-    ensures kept { OnOk result (IsMemo value_cmp (IsSealOf scheme key.now) memo.new) }
+    ensures kept { IfOk result (λ cell. IsMemo same_key value_at (IsSealOf scheme key.now) (cells.now ++ cell ∷ []) memo.new) }
 {
-    if let Some(cell) = memo.get(value) {
-        return Text::copied(alloc, cell.as_bytes());
+    let row = row_told(memo, key_of(value), cells.len())?;
+    match cells.get(row) {
+        Some(cell) => Text::copied(alloc, cell.as_bytes()),
+        None => seal_fixed(alloc, scheme, key, value),
     }
-    let cell = seal_fixed(alloc, scheme, key, value)?;
-    let kept = Text::copied(alloc, cell.as_bytes())?;
-    memo.insert(Clear::copy_cell(alloc, value)?, kept)?;
-    Ok(cell)
 }
 
 // The cell of a value under a scheme that takes no account of step and row.
@@ -168,53 +166,55 @@ pub(crate) fn open_all(
     requires { All (λ cell. length cell ≡ cell_length scheme ty) cells.now }
     ensures { IfOk result (λ values. AllZip (IsOpened scheme key.now ty) cells.now values.items) }
 {
-    let mut memo = BTreeMap::new(alloc);
+    let mut memo = HashMap::new(alloc);
     let mut values = Vec::new(alloc);
     for cell in cells {
-        values.push(open_row(alloc, scheme, key, ty, cell, &mut memo)?)?;
+        let cell = cell.as_bytes();
+        let value = open_row(alloc, scheme, key, ty, cell, values.as_slice(), &mut memo)?;
+        values.push(value)?;
     }
     Ok(values)
 }
 
-// The value of a row's cell.
-fn open_row(
+// The value of the cell of the row after those of these values.
+fn open_row<'a>(
     alloc: Global,
     scheme: Scheme,
     key: &[u8; 32],
     ty: ValueType,
-    cell: &Text,
-    memo: &mut BTreeMap<Text, Value>,
+    cell: &'a [u8],
+    values: &[Value],
+    memo: &mut HashMap<Bytes<'a>, usize>,
 ) -> Result<Value, NoMemory>
     requires len { length cell.now ≡ cell_length scheme ty }
-    requires memo { IsMemo (slice_cmp nat_cmp) (IsOpened scheme key.now ty) memo.old }
+    requires memo { IsMemo same_bytes bytes_at (IsOpened scheme key.now ty) values.now memo.old }
     ensures opened { IfOk result (IsOpened scheme key.now ty cell.now) }
-    ensures kept { OnOk result (IsMemo (slice_cmp nat_cmp) (IsOpened scheme key.now ty) memo.new) }
+    ensures kept { IfOk result (λ value. IsMemo same_bytes bytes_at (IsOpened scheme key.now ty) (values.now ++ value ∷ []) memo.new) }
 {
     match scheme {
-        Scheme::Rnd => open_value(alloc, scheme, key, ty, cell.as_bytes()),
-        _ => open_once(alloc, scheme, key, ty, cell, memo),
+        Scheme::Rnd => open_value(alloc, scheme, key, ty, cell),
+        _ => open_once(alloc, scheme, key, ty, cell, values, memo),
     }
 }
 
-// The value of a cell, looked up where the cell was met before.
-fn open_once(
+// The value of a cell, copied where the cell was met before.
+fn open_once<'a>(
     alloc: Global,
     scheme: Scheme,
     key: &[u8; 32],
     ty: ValueType,
-    cell: &Text,
-    memo: &mut BTreeMap<Text, Value>,
+    cell: &'a [u8],
+    values: &[Value],
+    memo: &mut HashMap<Bytes<'a>, usize>,
 ) -> Result<Value, NoMemory>
     requires len { length cell.now ≡ cell_length scheme ty }
-    requires memo { IsMemo (slice_cmp nat_cmp) (IsOpened scheme key.now ty) memo.old }
+    requires memo { IsMemo same_bytes bytes_at (IsOpened scheme key.now ty) values.now memo.old }
     ensures opened { IfOk result (IsOpened scheme key.now ty cell.now) }
-    ensures kept { OnOk result (IsMemo (slice_cmp nat_cmp) (IsOpened scheme key.now ty) memo.new) }
+    ensures kept { IfOk result (λ value. IsMemo same_bytes bytes_at (IsOpened scheme key.now ty) (values.now ++ value ∷ []) memo.new) }
 {
-    if let Some(value) = memo.get(cell) {
-        return Clear::copy_cell(alloc, value);
+    let row = row_told(memo, Bytes { bytes: cell }, values.len())?;
+    match values.get(row) {
+        Some(value) => Clear::copy_cell(alloc, value),
+        None => open_value(alloc, scheme, key, ty, cell),
     }
-    let value = open_value(alloc, scheme, key, ty, cell.as_bytes())?;
-    let kept = Clear::copy_cell(alloc, &value)?;
-    memo.insert(Text::copied(alloc, cell.as_bytes())?, kept)?;
-    Ok(value)
 }

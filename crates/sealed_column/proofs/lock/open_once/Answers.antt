@@ -1,20 +1,29 @@
-use Rattle.std.proofs.Common.{sym, subst, ◌∙◌}
-use Rattle.std.proofs.lemmas.Map.Lookups.{exact_bytes}
-use Rattle.std.specs.Cmp.Lexicographic.{slice_cmp}
-use Rattle.std.specs.Ordering.{nat_cmp}
-use Rattle.sealed_column.specs.inside.Opening.{IsOpened}
-use Rattle.sealed_column.proofs.OpenLaws.{if_ok, memo_put}
+use Rattle.sealed_column.specs.inside.Opening.{IsOpened, bytes_at, same_bytes}
+use Rattle.sealed_column.proofs.MemoLaws.{bytes_exact, memo_found, memo_more}
+use Rattle.sealed_column.proofs.OpenLaws.{if_ok}
 use Rattle.sealed_column.proofs.lock.open_once.Goals as goal
 
 pub returns-in-Some-clause-opened : goal.returns-in-Some-clause-opened
 returns-in-Some-clause-opened c =
     if_ok c.copy_cell.result
-    (λ value same. subst (λ v. IsOpened c.args.scheme c.args.key.now c.args.ty c.args.cell.now v) (sym same)
-    (c.requires.memo.kept c.args.cell.now c.in-Some.value.now (sym c.in-Some.ensures.value)))
+    (λ value copy. rw copy
+    (memo_found same_bytes bytes_at (IsOpened c.args.scheme c.args.key.now c.args.ty) c.args.values.now c.args.memo.now
+    (record { bytes = c.args.cell }) c.in_ok-row.row c.in-Some.value.now c.requires.memo c.in_ok-row.ensures.row
+    c.in-Some.ensures.lookup.3.0 c.in-Some.ensures.lookup.1))
     c.copy_cell.ensures
 
-pub returns-clause-kept : goal.returns-clause-kept
-returns-clause-kept c =
-    memo_put (slice_cmp nat_cmp) exact_bytes (IsOpened c.args.scheme c.args.key.now c.args.ty) c.args.memo.now c.insert.new.self
-    c.args.cell.now c.in_ok-copied.field-0 c.in_ok-value.value c.in_ok-kept.kept (c.in_ok-copied.ensures ∙ c.as_bytes-2.ensures)
-    c.in_ok-kept.ensures c.in_ok-insert.ensures.updates (rw c.as_bytes.ensures at c.in_ok-value.ensures) c.requires.memo
+pub returns-in-Some-clause-kept : goal.returns-in-Some-clause-kept
+returns-in-Some-clause-kept c =
+    if_ok c.copy_cell.result
+    (λ value opened. memo_more same_bytes bytes_at (IsOpened c.args.scheme c.args.key.now c.args.ty) c.args.values.now bytes_exact
+    c.args.memo.now c.row_told.new.memo (record { bytes = c.args.cell }) c.in_ok-row.row value c.requires.memo
+    c.in_ok-row.ensures.row c.in_ok-row.ensures.told opened)
+    (returns-in-Some-clause-opened c)
+
+pub returns-in-None-clause-kept : goal.returns-in-None-clause-kept
+returns-in-None-clause-kept c =
+    if_ok c.open_value.result
+    (λ value opened. memo_more same_bytes bytes_at (IsOpened c.args.scheme c.args.key.now c.args.ty) c.args.values.now bytes_exact
+    c.args.memo.now c.row_told.new.memo (record { bytes = c.args.cell }) c.in_ok-row.row value c.requires.memo
+    c.in_ok-row.ensures.row c.in_ok-row.ensures.told opened)
+    c.open_value.ensures
