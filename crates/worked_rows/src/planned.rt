@@ -2,7 +2,7 @@
 ghost use Rattle.std.specs.Prelude.{IfOk};
 ghost use Rattle.outside_io.specs.Outside.{HasDistinctNames};
 
-use crate::tests::{RUN, ran};
+use crate::tests::{RUN, joined, ran};
 use mq_base::{NoMemory, NodeId, Seq, Text};
 use outside_io::MemorySink;
 use planner_cli::Status;
@@ -95,14 +95,12 @@ struct Given<'a> {
 fn files(alloc: Global, given: &Given<'_>) -> Result<Seq<(Text, Text)>, NoMemory>
     ensures { IfOk result HasDistinctNames }
 {
-    let mut policy = String::from_str(alloc, given.policy.0)?;
-    policy.push_str(given.policy.1)?;
     let first = given.tables.0.as_bytes();
     let second = given.tables.1.as_bytes();
     let mut files = Seq::new(alloc);
     files.push((
         Text::copied(alloc, b"policy")?,
-        Text::of(policy.into_bytes()),
+        joined(alloc, given.policy)?,
     ))?;
     files.push((
         Text::copied(alloc, b"prices")?,
@@ -286,12 +284,16 @@ const ROWS: [Row; 12] = [
     },
 ];
 
+// What a report has between this front and this end.
+pub(crate) fn between<'a>(report: &'a [u8], front: &str, end: &str) -> Option<&'a [u8]> {
+    report
+        .strip_prefix(front.as_bytes())
+        .and_then(|rest| rest.strip_suffix(end.as_bytes()))
+}
+
 // Whether a report has these parts.
 fn has_parts(report: &[u8], row: &Row<'_>) -> bool {
-    let Some(plan) = report
-        .strip_prefix(row.cost.as_bytes())
-        .and_then(|rest| rest.strip_suffix(row.answer.as_bytes()))
-    else {
+    let Some(plan) = between(report, row.cost, row.answer) else {
         return false;
     };
     match row.plan {

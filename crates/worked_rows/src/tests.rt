@@ -33,6 +33,13 @@ pub(crate) const RUN: [&str; 6] = ["run", "policy", "prices", "query", SEED, "0"
 
 const REPORT: &str = "cost 480\nplan [[\"base\",\"r\"],[\"send\",\"U\"]]\nanswer\na\n-2\n1\n1\n";
 
+// Two texts, one behind the other.
+pub(crate) fn joined(alloc: Global, parts: (&str, &str)) -> Result<Text, NoMemory> {
+    let mut whole = String::from_str(alloc, parts.0)?;
+    whole.push_str(parts.1)?;
+    Ok(Text::of(whole.into_bytes()))
+}
+
 // The files of a command: the policy is two texts, one behind the other.
 fn files(
     alloc: Global,
@@ -43,13 +50,8 @@ fn files(
 ) -> Result<Seq<(Text, Text)>, NoMemory>
     ensures { IfOk result HasDistinctNames }
 {
-    let mut whole = String::from_str(alloc, policy.0)?;
-    whole.push_str(policy.1)?;
     let mut files = Seq::new(alloc);
-    files.push((
-        Text::copied(alloc, b"policy")?,
-        Text::of(whole.into_bytes()),
-    ))?;
+    files.push((Text::copied(alloc, b"policy")?, joined(alloc, policy)?))?;
     files.push((
         Text::copied(alloc, b"prices")?,
         Text::copied(alloc, prices.as_bytes())?,
