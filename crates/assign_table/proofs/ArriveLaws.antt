@@ -29,7 +29,7 @@ use Rattle.assign_table.specs.declared.way.Way.{Way}
 use Rattle.assign_table.specs.declared.way.Way.TheVariants as way
 use Rattle.assign_table.specs.inside.Arrivals.{IsArrival, IsArrivedOn, IsCrowdedAt, IsGate, IsOneListed, IsOpenAt, IsPairListed, IsPairOf, StaysOpen, gate_at, gate_base, gate_setting, one_at, two_at}
 use Rattle.assign_table.specs.inside.Blocks.{IsAttainedAt, IsFrom, IsPlaceOf, base_of, start_of}
-use Rattle.assign_table.specs.inside.Order.{IsListedOn}
+use Rattle.assign_table.specs.inside.Cells.{IsListedOn}
 use Rattle.assign_table.specs.inside.Settling.{IsGainListed}
 use Rattle.assign_table.specs.inside.Sheet.{IsOffered, IsRefused, Sheet}
 use Rattle.assign_table.specs.inside.Spans.{IsSpan, first_of}

@@ -14,7 +14,7 @@ use Rattle.assign_table.specs.declared.gate.Gate.{Gate}
 use Rattle.assign_table.specs.declared.way.Settled.{Settled}
 use Rattle.assign_table.specs.inside.Arrivals.{IsArrivedOn, IsCrowdedAt, IsGate, IsOpenAt, gate_base, gate_setting}
 use Rattle.assign_table.specs.inside.Blocks.{AreDone, IsArrived, IsAttainedAt, IsBlock, IsFrom, IsGainSettled, IsPlaceOf, IsSettled, IsSettledAt, base_of, start_of}
-use Rattle.assign_table.specs.inside.Order.{IsListedOn}
+use Rattle.assign_table.specs.inside.Cells.{IsListedOn}
 use Rattle.assign_table.specs.inside.Settling.{AreAttained, IsCrowded, IsDone, IsGainIn, IsGainListed, ShowsCrowdOver}
 use Rattle.assign_table.specs.inside.Sheet.{Sheet}
 use Rattle.assign_table.specs.inside.Spans.{first_of}

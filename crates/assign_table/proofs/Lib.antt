@@ -16,6 +16,7 @@ pub mod ArenaLaws
 pub mod SheetLaws
 pub mod OrderLaws
 pub mod SettleLaws
+pub mod CrossLaws
 pub mod GainLaws
 pub mod TurnLaws
 pub mod DoneLaws

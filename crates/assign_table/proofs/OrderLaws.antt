@@ -13,8 +13,9 @@ use Rattle.extended_plan.specs.States.{state_eq}
 use Rattle.assign_table.specs.declared.cell.Cell.{Cell}
 use Rattle.assign_table.specs.declared.way.Settled.{Settled}
 use Rattle.assign_table.specs.declared.way.Way.{Way}
-use Rattle.assign_table.specs.inside.Order.{IsAtRest, IsListedOn, IsOrdered, IsSettledFrom, states_of}
-use Rattle.assign_table.specs.inside.Sheet.{IsBlank, IsOffered, IsTaken, IsWritten, Sheet, Waits, cell_of, is_lower, is_this, is_waiting, times}
+use Rattle.assign_table.specs.inside.Cells.{IsListedOn, cell_of}
+use Rattle.assign_table.specs.inside.Order.{IsAtRest, IsOrdered, IsSettledFrom, states_of}
+use Rattle.assign_table.specs.inside.Sheet.{IsBlank, IsOffered, IsTaken, IsWritten, Sheet, Waits, is_lower, is_this, is_waiting, times}
 use Rattle.assign_table.proofs.ArenaLaws.{IsNewAt, block-none, push-cases, push-kept, push-last, states_of-push}
 use Rattle.assign_table.proofs.SheetLaws.{cell_with, is_waiting-itself, one_where, settled_with, times-none, times-pushed}
 use Rattle.assign_table.proofs.StateLaws.{cell_of-apart, cell_of-written, state_eq-equivalence}

@@ -22,8 +22,9 @@ use Rattle.extended_plan.specs.States.{state_eq}
 use Rattle.assign_table.specs.declared.cell.Cell.{Cell}
 use Rattle.assign_table.specs.declared.cell.Waiting.{Waiting}
 use Rattle.assign_table.specs.declared.way.Way.{Way}
+use Rattle.assign_table.specs.inside.Cells.{cell_of, state_at}
 use Rattle.assign_table.specs.inside.Queue.{place_cmp}
-use Rattle.assign_table.specs.inside.Sheet.{IsWritten, Sheet, Waits, cell_of, fresh_of, is_lower, state_at, waiting_cmp, waits_at}
+use Rattle.assign_table.specs.inside.Sheet.{IsWritten, Sheet, Waits, fresh_of, is_lower, waiting_cmp, waits_at}
 
 -- the sheet of these cells and of what waits at these places
 abbrev pub told : List (State × Cell) → List (Reverse Waiting) → Sheet
@@ -85,11 +86,11 @@ heap-told states queue heap = λ p k d low first last within.
 -- ---- what is written
 
 -- a new key goes last
-entry-last : (cells : List (State × Cell)) (st : State) (cell : Cell) → cell_of cells st ≡ None
+pub entry-last : (cells : List (State × Cell)) (st : State) (cell : Cell) → cell_of cells st ≡ None
     → insert_entry state_eq cells st cell ≡ cells ++ (st, cell) ∷ []
 entry-last cells st cell absent = insert_entry-absent state_eq st cell cells (absent_from_lookup (state_eq st) cells absent)
 
-keys-last : (cells : List (State × Cell)) (st : State) (cell : Cell) → keys_of (cells ++ (st, cell) ∷ []) ≡ keys_of cells ++ st ∷ []
+pub keys-last : (cells : List (State × Cell)) (st : State) (cell : Cell) → keys_of (cells ++ (st, cell) ∷ []) ≡ keys_of cells ++ st ∷ []
 keys-last [] st cell = refl
 keys-last (e ∷ rest) st cell = ap (λ (states : List State). e.0 ∷ states) (keys-last rest st cell)
 

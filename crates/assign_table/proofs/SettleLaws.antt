@@ -21,9 +21,9 @@ use Rattle.assign_table.specs.declared.cell.Cell.{Cell}
 use Rattle.assign_table.specs.declared.way.Settled.{Settled}
 use Rattle.assign_table.specs.declared.way.Way.{Way}
 use Rattle.assign_table.specs.declared.way.Way.TheVariants as way
-use Rattle.assign_table.specs.inside.Order.{IsListedOn}
+use Rattle.assign_table.specs.inside.Cells.{IsListedOn, cell_of}
 use Rattle.assign_table.specs.inside.Settling.{AreAttained, Continues, IsCrowded, IsGainListed, IsGathered, IsLast, ShowsCrowd, Stays}
-use Rattle.assign_table.specs.inside.Sheet.{IsBlank, IsOffered, IsRefused, Sheet, cell_of, is_lower}
+use Rattle.assign_table.specs.inside.Sheet.{IsBlank, IsOffered, IsRefused, Sheet, is_lower}
 use Rattle.assign_table.specs.inside.Ways.{IsAttained}
 use Rattle.assign_table.proofs.OrderLaws.{offered-listed, offered-lower, ordered-blank, ordered-offered, written-cell, written-other}
 use Rattle.assign_table.proofs.SheetLaws.{cell_with}

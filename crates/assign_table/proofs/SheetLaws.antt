@@ -15,7 +15,8 @@ use Rattle.extended_plan.specs.States.{state_eq}
 use Rattle.assign_table.specs.declared.cell.Cell.{Cell}
 use Rattle.assign_table.specs.declared.way.Settled.{Settled}
 use Rattle.assign_table.specs.declared.way.Way.{Way}
-use Rattle.assign_table.specs.inside.Sheet.{IsDrained, IsSifted, IsTaken, Sheet, Waits, cell_of, is_this, is_waiting, fresh_of, times, waiting_cmp}
+use Rattle.assign_table.specs.inside.Cells.{cell_of}
+use Rattle.assign_table.specs.inside.Sheet.{IsDrained, IsSifted, IsTaken, Sheet, Waits, is_this, is_waiting, fresh_of, times, waiting_cmp}
 
 -- the cell of a label and a way, and a settled state with these
 abbrev pub cell_with : ℕ → Way → Cell
@@ -96,7 +97,7 @@ pub record IsFresh (x : Waits) (found : Option Cell) (e : Settled) : Type 0 wher
   pub state : e.state ≡ x.state
   pub label : e.label ≡ x.label
 
-fresh-from : (x : Waits) (found : Option Cell) (e : Settled) → fresh_of x found ≡ Some e → IsFresh x found e
+pub fresh-from : (x : Waits) (found : Option Cell) (e : Settled) → fresh_of x found ≡ Some e → IsFresh x found e
 fresh-from x None e is = cc
 fresh-from x (Some cell) e is = by_test (cell.label == x.label) refl is
   where

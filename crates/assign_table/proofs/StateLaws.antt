@@ -6,7 +6,7 @@ use Rattle.extended_plan.proofs.EntryLaws.{same_state, state_eq-itself}
 use Rattle.extended_plan.specs.declared.state.State.{State}
 use Rattle.extended_plan.specs.States.{state_eq}
 use Rattle.assign_table.specs.declared.cell.Cell.{Cell}
-use Rattle.assign_table.specs.inside.Sheet.{cell_of}
+use Rattle.assign_table.specs.inside.Cells.{cell_of}
 
 -- where the test of two states fails, it fails the other way round
 pub state_eq-apart : (s t : State) → state_eq s t ≡ false → state_eq t s ≡ false

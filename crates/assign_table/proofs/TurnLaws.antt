@@ -18,9 +18,10 @@ use Rattle.extended_plan.specs.States.{state_eq}
 use Rattle.assign_table.specs.declared.cell.Cell.{Cell}
 use Rattle.assign_table.specs.declared.way.Settled.{Settled}
 use Rattle.assign_table.specs.inside.Blocks.{AreApart, IsFrom, IsSettled}
-use Rattle.assign_table.specs.inside.Order.{IsAtRest, IsListedOn, IsOrdered, IsSettledFrom, states_of}
+use Rattle.assign_table.specs.inside.Cells.{IsListedOn, cell_of}
+use Rattle.assign_table.specs.inside.Order.{IsAtRest, IsOrdered, IsSettledFrom, states_of}
 use Rattle.assign_table.specs.inside.Settling.{AreAttained, AreKnown, Continues, IsClosedOn, IsDone, IsGainIn, IsGainListed, IsLast, IsTurn, IsTurned, IsUnderway, ShowsCrowd, ShowsCrowdFrom, ShowsCrowdOver}
-use Rattle.assign_table.specs.inside.Sheet.{IsDrained, IsTaken, Sheet, cell_of}
+use Rattle.assign_table.specs.inside.Sheet.{IsDrained, IsTaken, Sheet}
 use Rattle.assign_table.specs.inside.Ways.{IsAttained, settled_at}
 use Rattle.assign_table.proofs.ArenaLaws.{IsNewAt, block-none, push-cases, push-last}
 use Rattle.assign_table.proofs.OrderLaws.{ordered-taken}

@@ -1,5 +1,7 @@
 pub mod Blocks
 pub mod Pairs
+pub mod Cells
+pub mod Crossing
 pub mod Queue
 pub mod Spans
 pub mod Ways

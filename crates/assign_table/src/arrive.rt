@@ -4,7 +4,7 @@ ghost use Rattle.extended_plan.specs.Setting.{kind_at};
 ghost use Rattle.assign_table.specs.declared.table.TableNo.TheVariants.{Full};
 ghost use Rattle.assign_table.specs.inside.Arrivals.{IsArrival, IsArrivedOn, IsCrowdedAt, IsGate, IsOneListed, IsOpenAt, StaysOpen, gate_setting};
 ghost use Rattle.assign_table.specs.inside.Blocks.{IsPlaceOf};
-ghost use Rattle.assign_table.specs.inside.Order.{IsListedOn};
+ghost use Rattle.assign_table.specs.inside.Cells.{IsListedOn};
 ghost use Rattle.assign_table.specs.inside.Sheet.{sheet_of};
 
 use crate::gate::Gate;
@@ -13,7 +13,7 @@ use crate::settle::label_after;
 use crate::table::{Table, TableNo};
 use crate::way::Way;
 use extended_plan::{State, after_step, leaf_state};
-use mq_base::{NodeId, PlanOp, Step};
+use mq_base::{AttrSet, NodeId, PlanOp, Step};
 use plan_algebra::Kind;
 use std::alloc::Global;
 
@@ -125,5 +125,5 @@ pub fn offer_arrival(
     ensures listed { OnOk result (IsListedOn (sheet_of table.new).cells state label) }
     ensures crowded { result ≡ Err Full → IsCrowdedAt gate.entry room }
 {
-    table.offer(&state, label, way, room)
+    table.offer(&state, label, way, AttrSet(0), room)
 }

@@ -39,7 +39,7 @@ fn listed_from(
     requires rise { from ≤ to }
     ensures { IfOk result (λ entries. entries.items ≡ entries_from settled.now from to) }
 {
-    let mut entries = Vec::new(alloc);
+    let mut entries = Vec::with_capacity(alloc, to - from)?;
     'places: for at in from..to {
         let one = settled[at];
         entries.push(Entry {
@@ -63,6 +63,6 @@ fn sorted_from(
     ensures { IfOk result (λ entries. AreEntriesOf settled.now from to entries) }
 {
     let mut entries = listed_from(alloc, settled, from, to)?;
-    entries.sort_by_key(|entry| entry.state)?;
+    entries.sort_unstable_by_key(|entry| entry.state);
     Ok(Seq::of(entries))
 }

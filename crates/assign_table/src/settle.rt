@@ -1,19 +1,20 @@
-ghost use Rattle.std.specs.Prelude.{◌≡◌, ◌+◌, ◌≤◌, ◌<◌, Err, IfOk, IfSome, None, OnOk, length, if◌then◌else◌};
+ghost use Rattle.std.specs.Prelude.{◌≡◌, ◌+◌, ◌≤◌, ◌<◌, Err, IfOk, IfSome, None, OnOk, length, option_map, if◌then◌else◌};
 ghost use Rattle.base_laws.specs.Sets.{has};
 ghost use Rattle.mq_base.specs.declared.ids.AttrId.{AttrId};
 ghost use Rattle.mq_base.specs.declared.ids.SubjectId.{SubjectId};
 ghost use Rattle.mq_base.specs.declared.plan.Step.TheVariants as step;
 ghost use Rattle.cost_model.specs.Costs.{cut};
 ghost use Rattle.extended_plan.specs.Gains.{send_gain, step_gain};
-ghost use Rattle.extended_plan.specs.Job.{IsStateAt, setting_of};
+ghost use Rattle.extended_plan.specs.Job.{IsStateAt, setting_of, told};
 ghost use Rattle.assign_table.specs.declared.table.TableNo.TheVariants.{Full};
+ghost use Rattle.assign_table.specs.inside.Crossing.{AreCrossed};
 ghost use Rattle.assign_table.specs.inside.Order.{IsOrdered};
-ghost use Rattle.assign_table.specs.inside.Settling.{AreCryptsListed, AreKnown, Continues, IsClosedOn, IsDone, IsGainListed, IsTurn, ShowsCrowd, ShowsCrowdFrom, ShowsCrowdOver, Stays};
+ghost use Rattle.assign_table.specs.inside.Settling.{AreCryptsListed, AreKnown, Continues, IsClosedOn, IsDone, IsFront, IsGainListed, IsTurn, ShowsCrowd, ShowsCrowdFrom, ShowsCrowdOver, Stays};
 ghost use Rattle.assign_table.specs.inside.Sheet.{sheet_of};
 
 use crate::table::{Table, TableNo};
-use crate::way::{Settled, Way};
-use extended_plan::{Job, State, after_step};
+use crate::way::{Settled, Taken, Way};
+use extended_plan::{Job, State, after_send, after_step};
 use mq_base::{AttrId, AttrSet, NodeId, Step, SubjectId};
 
 /// Settles what was offered at a node, and all that encryptions, decryptions and sends gain from it: each state once, behind what the
@@ -57,52 +58,57 @@ fn settle_next(
     ensures turn { IfOk result (λ more. IsTurn (setting_of job.now) node.0 room more arena.old.items (sheet_of table.old) arena.new.items (sheet_of table.new)) }
     ensures full { result ≡ Err Full → ShowsCrowdFrom (setting_of job.now) node.0 room arena.old.items (sheet_of table.old) }
 {
-    let Some(settled) = table.take() else {
+    let Some(taken) = table.take() else {
         return Ok(false);
     };
     let at = arena.len() as u32;
-    arena.push(settled)?;
-    offer_steps(job, node, table, room, at, &settled)?;
+    arena.push(taken.settled)?;
+    offer_steps(job, node, table, room, at, &taken)?;
     Ok(true)
 }
 
-// Offers what each encryption, decryption and send gains from a settled state.
+// Offers what each encryption, decryption and send gains from a settled state; encryptions and decryptions of its attributes gain
+// nothing that is not listed.
 fn offer_steps(
     job: &Job<'_>,
     node: NodeId,
     table: &mut Table,
     room: usize,
     at: u32,
-    from: &Settled,
+    taken: &Taken,
 ) -> Result<(), TableNo>
     requires node { node.0 < length (setting_of job.now).basis.nodes }
-    requires known { IsStateAt (setting_of job.now) node.0 from.now.state }
-    ensures continues { OnOk result (Continues (setting_of job.now) node.0 room at from.now (sheet_of table.old) (sheet_of table.new)) }
-    ensures closed { OnOk result (IsClosedOn (setting_of job.now) node.0 (sheet_of table.new).cells from.now.state from.now.label) }
-    ensures full { result ≡ Err Full → ShowsCrowd (setting_of job.now) node.0 room at from.now (sheet_of table.old) }
+    requires known { IsStateAt (setting_of job.now) node.0 taken.now.settled.state }
+    requires front { IsFront table.old taken.now.settled }
+    requires crossed { AreCrossed (sheet_of table.old).cells taken.now.settled.state taken.now.crossed.0 taken.now.settled.label }
+    ensures continues { OnOk result (Continues (setting_of job.now) node.0 room at taken.now.settled (sheet_of table.old) (sheet_of table.new)) }
+    ensures closed { OnOk result (IsClosedOn (setting_of job.now) node.0 (sheet_of table.new).cells taken.now.settled.state taken.now.settled.label) }
+    ensures full { result ≡ Err Full → ShowsCrowd (setting_of job.now) node.0 room at taken.now.settled (sheet_of table.old) }
 {
-    offer_crypts(job, node, table, room, at, from)?;
-    offer_sends(job, node, table, room, at, from)
+    offer_crypts(job, node, table, room, at, taken)?;
+    offer_sends(job, node, table, room, at, &taken.settled)
 }
 
-// Offers what each encryption and decryption gains from a settled state.
+// Offers what each encryption and decryption gains from a settled state, but for those of its attributes.
 fn offer_crypts(
     job: &Job<'_>,
     node: NodeId,
     table: &mut Table,
     room: usize,
     at: u32,
-    from: &Settled,
+    taken: &Taken,
 ) -> Result<(), TableNo>
     requires node { node.0 < length (setting_of job.now).basis.nodes }
-    requires known { IsStateAt (setting_of job.now) node.0 from.now.state }
-    ensures continues { OnOk result (Continues (setting_of job.now) node.0 room at from.now (sheet_of table.old) (sheet_of table.new)) }
-    ensures tried { OnOk result ((a : AttrId) → AreCryptsListed (setting_of job.now) node.0 a (sheet_of table.new).cells from.now) }
-    ensures full { result ≡ Err Full → ShowsCrowd (setting_of job.now) node.0 room at from.now (sheet_of table.old) }
+    requires known { IsStateAt (setting_of job.now) node.0 taken.now.settled.state }
+    requires front { IsFront table.old taken.now.settled }
+    requires crossed { AreCrossed (sheet_of table.old).cells taken.now.settled.state taken.now.crossed.0 taken.now.settled.label }
+    ensures continues { OnOk result (Continues (setting_of job.now) node.0 room at taken.now.settled (sheet_of table.old) (sheet_of table.new)) }
+    ensures tried { OnOk result ((a : AttrId) → AreCryptsListed (setting_of job.now) node.0 a (sheet_of table.new).cells taken.now.settled) }
+    ensures full { result ≡ Err Full → ShowsCrowd (setting_of job.now) node.0 room at taken.now.settled (sheet_of table.old) }
 {
-    let mut left = job.facts.visible(node);
+    let mut left = job.facts.visible(node).difference(taken.crossed);
     'attributes: while let Some(a) = left.first() {
-        offer_crypt(job, node, table, room, at, from, a)?;
+        offer_crypt(job, node, table, room, at, &taken.settled, a)?;
         left = left.difference(AttrSet::of(a));
     }
     Ok(())
@@ -121,12 +127,15 @@ fn offer_crypt(
     requires node { node.0 < length (setting_of job.now).basis.nodes }
     requires known { IsStateAt (setting_of job.now) node.0 from.now.state }
     requires small { a.0 < 64 }
+    requires front { IsFront table.old from.now }
+    ensures front { OnOk result (IsFront table.new from.now) }
     ensures continues { OnOk result (Continues (setting_of job.now) node.0 room at from.now (sheet_of table.old) (sheet_of table.new)) }
     ensures tried { OnOk result (AreCryptsListed (setting_of job.now) node.0 a (sheet_of table.new).cells from.now) }
     ensures full { result ≡ Err Full → ShowsCrowd (setting_of job.now) node.0 room at from.now (sheet_of table.old) }
 {
     let step = crypt_of(&from.state, a);
-    offer_step(job, node, table, room, at, from, step)
+    let gain = after_step(job, node, &step, &from.state, None);
+    offer_gain(job, node, table, room, at, from, step, gain, AttrSet::of(a))
 }
 
 // The decryption of an attribute that is encrypted in a state, and the encryption of another. The other step gains nothing.
@@ -156,16 +165,28 @@ fn offer_sends(
     ensures tried { OnOk result ((to : SubjectId) → IfSome (send_gain (setting_of job.now) node.0 to from.now.state) (IsGainListed (sheet_of table.new).cells from.now.label)) }
     ensures full { result ≡ Err Full → ShowsCrowd (setting_of job.now) node.0 room at from.now (sheet_of table.old) }
 {
+    let mut load = None;
     let subjects = job.policy.subjects.as_slice();
     'subjects: for to in 0..subjects.len() {
-        let step = Step::Send(SubjectId(to as u8));
-        offer_step(job, node, table, room, at, from, step)?;
+        let to = SubjectId(to as u8);
+        let gain = after_send(job, node, to, &from.state, &mut load);
+        offer_gain(
+            job,
+            node,
+            table,
+            room,
+            at,
+            from,
+            Step::Send(to),
+            gain,
+            AttrSet(0),
+        )?;
     }
     Ok(())
 }
 
-// Offers what a step gains from a settled state, where it gains something.
-fn offer_step(
+// Offers what a step gained from a settled state, where it gained something, and tells attributes across which settled states stand.
+fn offer_gain(
     job: &Job<'_>,
     node: NodeId,
     table: &mut Table,
@@ -173,19 +194,25 @@ fn offer_step(
     at: u32,
     from: &Settled,
     step: Step,
+    gain: Option<(State, u128)>,
+    crossed: AttrSet,
 ) -> Result<(), TableNo>
     requires node { node.0 < length (setting_of job.now).basis.nodes }
     requires known { IsStateAt (setting_of job.now) node.0 from.now.state }
     requires stays { Stays step }
+    requires within { IfSome gain (λ gained. IsStateAt (setting_of job.now) node.0 gained.0) }
+    requires gain { gain ≡ option_map told (step_gain (setting_of job.now) node step from.now.state None) }
+    requires crossed { IfSome (step_gain (setting_of job.now) node step from.now.state None) (λ gained. AreCrossed (sheet_of table.old).cells gained.state crossed.0 table.old.front) }
+    ensures front { OnOk result (table.new.front ≡ table.old.front) }
     ensures continues { OnOk result (Continues (setting_of job.now) node.0 room at from.now (sheet_of table.old) (sheet_of table.new)) }
     ensures listed { OnOk result (IfSome (step_gain (setting_of job.now) node step from.now.state None) (IsGainListed (sheet_of table.new).cells from.now.label)) }
     ensures full { result ≡ Err Full → ShowsCrowd (setting_of job.now) node.0 room at from.now (sheet_of table.old) }
 {
-    match after_step(job, node, &step, &from.state, None) {
+    match gain {
         None => Ok(()),
         Some((state, cost)) => {
             let way = Way::One { step, operand: at };
-            table.offer(&state, label_after(from.label, cost), way, room)
+            table.offer(&state, label_after(from.label, cost), way, crossed, room)
         }
     }
 }

@@ -1,5 +1,5 @@
 use extended_plan::State;
-use mq_base::{NodeId, Step, TableId};
+use mq_base::{AttrSet, NodeId, Step, TableId};
 
 /// How a state was reached. Operands are places of the arena of settled states, before one's own; it has at most 200,000.
 #[derive(Clone, Copy, Debug, PartialEq, Eq)]
@@ -18,4 +18,11 @@ pub struct Settled {
     pub state: State,
     pub label: u128,
     pub way: Way,
+}
+
+/// A settled state, with attributes whose encryption or decryption lowers no label from it, since the state to which it leads is settled.
+#[derive(Clone, Copy, Debug, PartialEq, Eq)]
+pub struct Taken {
+    pub settled: Settled,
+    pub crossed: AttrSet,
 }

@@ -94,9 +94,13 @@ abbrev pub sealing : Basis → ℕ → ℕ → ℕ → ℕ
 sealing base a holder n =
     slice_index base.rows n * cell_units (scheme_at base.clusters a) (type_at base.schema a) * slice_index base.prices.cpu holder
 
+-- the bytes of the table of node n
+abbrev pub load : Basis → ℕ → View → ℕ
+load base n view = slice_index base.rows n * width base n view
+
 -- the cost of sending the table of node n from a subject to another
 abbrev pub sending : Basis → ℕ → ℕ → ℕ → View → ℕ
-sending base from to n view = slice_index base.rows n * width base n view * net_of base.prices from to
+sending base from to n view = load base n view * net_of base.prices from to
 
 -- the cost of doing node n, at a holder
 abbrev pub working : Basis → ℕ → ℕ → ℕ

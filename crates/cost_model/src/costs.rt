@@ -62,10 +62,24 @@ fn sending(base: &CostBase<'_>, from: SubjectId, to: SubjectId, node: NodeId, vi
     requires { node.0 < length base.now.facts.now.plan.nodes }
     ensures { result ≡ cut (costs.sending (basis_of base.now) from.0 to.0 node.0 view.now) }
 {
-    priced(
-        product(rows_of(base.estimates, node), width(base, node, view)),
-        net_of(base.prices, from, to),
-    )
+    send_cost(base, from, to, send_load(base, node, view))
+}
+
+/// The bytes of a node's table in a view: the node's estimate times the bytes of a row. They are the same wherever it is sent.
+/// docs/MODEL.md, "Estimates and costs". It takes no memory, and a time that is linear in the attributes of the table.
+pub fn send_load(base: &CostBase<'_>, node: NodeId, view: &View) -> u128
+    requires { node.0 < length base.now.facts.now.plan.nodes }
+    ensures { result ≡ costs.load (basis_of base.now) node.0 view.now }
+{
+    product(rows_of(base.estimates, node), width(base, node, view))
+}
+
+/// What sending so many bytes from a subject to another costs, cut at 2^128 - 1. docs/MODEL.md, "Estimates and costs". It takes no
+/// memory, and a time that depends on nothing.
+pub fn send_cost(base: &CostBase<'_>, from: SubjectId, to: SubjectId, load: u128) -> u128
+    ensures { result ≡ cut (load * costs.net_of (basis_of base.now).prices from.0 to.0) }
+{
+    priced(load, net_of(base.prices, from, to))
 }
 
 // The cost of doing a node.

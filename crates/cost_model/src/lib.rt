@@ -9,6 +9,6 @@ mod rules;
 mod sizes;
 mod tables;
 
-pub use costs::{CostBase, step_cost};
+pub use costs::{CostBase, send_cost, send_load, step_cost};
 pub use estimated::Estimates;
 pub use reckoning::estimates;

@@ -12,10 +12,10 @@ use Rattle.extended_plan.specs.declared.state.Entry.{Entry}
 use Rattle.extended_plan.specs.declared.state.State.{State}
 use Rattle.extended_plan.specs.Certificate.{AreLeastLabels, HasLabel, IsCarried, IsLabelling, IsLeastEntry, IsListed, entries_at, is_goal, least_goal}
 use Rattle.extended_plan.specs.Gains.{Gain, dec_gain, enc_gain, leaf_gain, one_gain, send_gain, two_gain}
-use Rattle.extended_plan.specs.Laws.{EntriesTellLeast, IsGained, LeastCostsAreEntries, LeastHasCertificate, LeastLabelsAreClosed, NoneHasCertificate, TellsLeast}
+use Rattle.extended_plan.specs.Laws.{EntriesTellLeast, IsGained, LeastCostsAreEntries, LeastHasCertificate, LeastLabelsAreClosed, NoneHasCertificate}
 use Rattle.extended_plan.specs.Ready.{IsReady}
 use Rattle.extended_plan.specs.Setting.{Setting, kind_at, leaf_of, root}
-use Rattle.extended_plan.specs.States.{IsLeast, Reaches, cost, state}
+use Rattle.extended_plan.specs.States.{cost, state}
 use Rattle.extended_plan.specs.Term.{Term, Leaf, Enc, Dec, Send, Un, Bin}
 use Rattle.extended_plan.specs.Validity.{IsValid, StandsAt, is_held}
 use Rattle.extended_plan.proofs.BoundLaws.{goal_valid, uncut, valid_goal}

@@ -1,4 +1,6 @@
 ghost use Rattle.std.specs.Prelude.{◌≡◌, ◌<◌, length, if◌then◌else◌, option_map, Some, None, IfSome, IsSome};
+ghost use Rattle.mq_base.specs.declared.plan.Step.TheVariants as step;
+ghost use Rattle.cost_model.specs.Costs as costs;
 ghost use Rattle.cost_model.specs.Costs.{cut, step_work};
 ghost use Rattle.extended_plan.specs.Gains.{leaf_gain, shown, step_gain};
 ghost use Rattle.extended_plan.specs.Job.{AreOperands, IsLeafState, IsStateAt, IsStepAt, setting_of, told};
@@ -10,7 +12,7 @@ ghost use Rattle.extended_plan.specs.inside.Ran as ran;
 
 use crate::job::Job;
 use crate::state::State;
-use cost_model::step_cost;
+use cost_model::{send_cost, send_load, step_cost};
 use mq_base::{NodeId, PlanOp, Step, SubjectId, TableId};
 use relation_profile::{View, after_binary, after_dec, after_enc, after_unary, leaf_view};
 use view_authority::check_view;
@@ -104,6 +106,45 @@ pub fn after_step(
         return None;
     }
     Some((state, work_of(job, node, step, first)))
+}
+
+/// The state after a send, and what it costs, as `after_step` tells them. `load` is kept from one send of a table to its next: the
+/// bytes of the table, which are the same wherever it goes, once a send that can run has asked for them. docs/MODEL.md, "States". It
+/// takes no memory, and a time that is linear in the equivalent sets of the node, and for the first such send in its attributes.
+pub fn after_send(
+    job: &Job<'_>,
+    node: NodeId,
+    to: SubjectId,
+    first: &State,
+    load: &mut Option<u128>,
+) -> Option<(State, u128)>
+    requires taken { IsStepAt (setting_of job.now) node (step.Send to) first.now None }
+    requires load { IfSome load.old (λ bytes. bytes ≡ costs.load (setting_of job.now).basis node.0 first.now.view) }
+    ensures load { IfSome load.new (λ bytes. bytes ≡ costs.load (setting_of job.now).basis node.0 first.now.view) }
+    ensures within { IfSome result (λ gain. IsStateAt (setting_of job.now) node.0 gain.0) }
+    ensures answers { result ≡ option_map told (step_gain (setting_of job.now) node (step.Send to) first.now None) }
+{
+    let State { holder, view } = sent(job, first, to)?;
+    let gained = State { holder, view };
+    if may_hold(job, node, &gained) {
+        let bytes = load_of(job, node, first, *load);
+        *load = Some(bytes);
+        Some((gained, send_cost(&job.base(), first.holder, to, bytes)))
+    } else {
+        None
+    }
+}
+
+// The bytes of a table in a state, where they are not known yet.
+fn load_of(job: &Job<'_>, node: NodeId, first: &State, known: Option<u128>) -> u128
+    requires node { node.0 < length (setting_of job.now).basis.nodes }
+    requires known { IfSome known (λ bytes. bytes ≡ costs.load (setting_of job.now).basis node.0 first.now.view) }
+    ensures { result ≡ costs.load (setting_of job.now).basis node.0 first.now.view }
+{
+    match known {
+        Some(bytes) => bytes,
+        None => send_load(&job.base(), node, &first.view),
+    }
 }
 
 // The state after a step, where it is runnable.

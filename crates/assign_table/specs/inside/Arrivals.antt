@@ -15,7 +15,7 @@ use Rattle.assign_table.specs.declared.cell.Cell.{Cell}
 use Rattle.assign_table.specs.declared.way.Settled.{Settled}
 use Rattle.assign_table.specs.declared.way.Way.{Way}
 use Rattle.assign_table.specs.inside.Blocks.{AreDone, IsFrom, IsPlaceOf, base_of, start_of}
-use Rattle.assign_table.specs.inside.Order.{IsListedOn}
+use Rattle.assign_table.specs.inside.Cells.{IsListedOn}
 use Rattle.assign_table.specs.inside.Pairs.{compared_left, compared_right, is_in}
 use Rattle.assign_table.specs.inside.Settling.{IsCrowded, IsGainListed, IsGathered}
 use Rattle.assign_table.specs.inside.Sheet.{Sheet}

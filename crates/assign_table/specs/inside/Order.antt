@@ -7,13 +7,8 @@ use Rattle.extended_plan.specs.declared.state.State.{State}
 use Rattle.extended_plan.specs.States.{state_eq}
 use Rattle.assign_table.specs.declared.cell.Cell.{Cell}
 use Rattle.assign_table.specs.declared.way.Settled.{Settled}
-use Rattle.assign_table.specs.inside.Sheet.{Sheet, cell_of, times, waiting_cmp}
-
--- a state has a label of at most so much among cells
-pub record IsListedOn (cells : List (State × Cell)) (st : State) (most : ℕ) : Type 0 where
-  pub cell : Cell
-  pub listed : cell_of cells st ≡ Some cell
-  pub enough : cell.label ≤ most
+use Rattle.assign_table.specs.inside.Cells.{IsListedOn, cell_of}
+use Rattle.assign_table.specs.inside.Sheet.{Sheet, times, waiting_cmp}
 
 -- a settled state is as its cell, does not wait, and has a label of at most the front
 pub record IsAtRest (sheet : Sheet) (front : ℕ) (e : Settled) : Type 0 where

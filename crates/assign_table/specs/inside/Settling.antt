@@ -1,6 +1,6 @@
 -- The states of a node as they are settled: what each of them has, what one turn does, and what stands in the arena at the end.
 -- docs/MODEL.md, "Search", tells it in prose.
-use Rattle.std.specs.Prelude.{◌≡◌, ℕ, ◌+◌, ◌≤◌, ◌<◌, Bool, true, false, List, [], ◌∷◌, ◌++◌, length, All, Some, IfSome, slice_get}
+use Rattle.std.specs.Prelude.{◌≡◌, ℕ, ◌+◌, ◌^◌, ◌≤◌, ◌<◌, Bool, true, false, List, [], ◌∷◌, ◌++◌, length, All, Some, IfSome, slice_get}
 use Rattle.std.specs.List.{IsDistinct}
 use Rattle.std.specs.Map.{keys_of}
 use Rattle.mq_base.specs.declared.ids.AttrId.{AttrId}
@@ -14,10 +14,12 @@ use Rattle.extended_plan.specs.Job.{IsStateAt}
 use Rattle.extended_plan.specs.Setting.{Setting}
 use Rattle.extended_plan.specs.States.{IsReached, state_eq}
 use Rattle.assign_table.specs.declared.cell.Cell.{Cell}
+use Rattle.assign_table.specs.declared.table.Table.{Table}
 use Rattle.assign_table.specs.declared.way.Settled.{Settled}
 use Rattle.assign_table.specs.inside.Blocks.{AreApart, IsFrom, IsSettled}
-use Rattle.assign_table.specs.inside.Order.{IsListedOn, IsOrdered}
-use Rattle.assign_table.specs.inside.Sheet.{IsDrained, Sheet, cell_of}
+use Rattle.assign_table.specs.inside.Cells.{IsListedOn, cell_of}
+use Rattle.assign_table.specs.inside.Order.{IsOrdered}
+use Rattle.assign_table.specs.inside.Sheet.{IsDrained, Sheet, sheet_of}
 use Rattle.assign_table.specs.inside.Ways.{IsAttained, settled_at}
 
 -- each cell of a node's table, and each settled state of its block, is attained there; a state has one cell
@@ -55,6 +57,12 @@ pub record IsClosedOn (s : Setting) (n : ℕ) (cells : List (State × Cell)) (st
   pub enc : (a : AttrId) → IfSome (enc_gain s n a st) (IsGainListed cells label)
   pub dec : (a : AttrId) → IfSome (dec_gain s n a st) (IsGainListed cells label)
   pub send : (to : SubjectId) → IfSome (send_gain s n to st) (IsGainListed cells label)
+
+-- a settled state is listed in a table, and its label, a number that a cell can hold, is not above the front
+pub record IsFront (table : Table) (e : Settled) : Type 0 where
+  pub listed : IsListedOn (sheet_of table).cells e.state e.label
+  pub low : e.label ≤ table.front
+  pub fits : e.label < 2 ^ 128
 
 -- a step that stays at its node: an encryption, a decryption or a send
 abbrev pub Stays : Step → Type 0

@@ -1,10 +1,10 @@
 -- The table of a node as its calls see it: which states it has, with label and way, and which of them wait. docs/MODEL.md, "Search",
 -- tells it in prose.
-use Rattle.std.specs.Prelude.{◌≡◌, ℕ, ◌+◌, ◌≤◌, ◌<◌, ◌==◌, ◌&&◌, Bool, true, false, List, [], ◌∷◌, length, map, Option, Some, None, nat_lt, if◌then◌else◌, slice_index_or}
+use Rattle.std.specs.Prelude.{◌≡◌, ℕ, ◌+◌, ◌≤◌, ◌<◌, ◌==◌, ◌&&◌, Bool, true, false, List, [], ◌∷◌, length, map, Option, Some, None, nat_lt, if◌then◌else◌}
 use Rattle.std.specs.BinaryHeap.{IsHeap, KeepsHeap, heap_items}
 use Rattle.std.specs.List.{IsDistinct, count_by}
 use Rattle.std.specs.List.Sorted.{IsPermutation}
-use Rattle.std.specs.Map.{keys_of, lookup}
+use Rattle.std.specs.Map.{keys_of}
 use Rattle.std.specs.Ordering.{nat_cmp}
 use Rattle.std.specs.declared.cmp.Ordering.{Ordering}
 use Rattle.std.specs.declared.cmp.Reverse.{Reverse}
@@ -16,6 +16,7 @@ use Rattle.assign_table.specs.declared.table.Table.{Table}
 use Rattle.assign_table.specs.declared.cell.Waiting.{Waiting}
 use Rattle.assign_table.specs.declared.way.Settled.{Settled}
 use Rattle.assign_table.specs.declared.way.Way.{Way}
+use Rattle.assign_table.specs.inside.Cells.{cell_of, state_at}
 
 -- a state that waits, with the label that it had when it began to wait
 pub record Waits : Type 0 where
@@ -27,13 +28,6 @@ pub record Sheet : Type 0 where
   pub cells : List (State × Cell)
   pub queue : List Waits
 
--- the state at a place among states, where there is one
-abbrev pub state_at : List State → ℕ → State
-state_at states place = slice_index_or states place (record {
-  holder = record { 0 = 0 };
-  view = record { enc = record { 0 = 0 }; ip = record { 0 = 0 }; ie = record { 0 = 0 } };
-})
-
 -- what waits, where it tells its state by the place among these
 abbrev pub waits_at : List State → Reverse Waiting → Waits
 waits_at states waiting = record { label = waiting.0.label; state = state_at states waiting.0.place }
@@ -41,10 +35,6 @@ waits_at states waiting = record { label = waiting.0.label; state = state_at sta
 abbrev pub sheet_of : Table → Sheet
 sheet_of table =
     record { cells = table.cells.entries; queue = map (waits_at (keys_of table.cells.entries)) (heap_items table.queue) }
-
--- the cell of a state, where there is one
-abbrev pub cell_of : List (State × Cell) → State → Option Cell
-cell_of cells st = lookup (state_eq st) cells
 
 -- whether what waits is this state with this label, and how many times it does
 abbrev pub is_waiting : State → ℕ → Waits → Bool

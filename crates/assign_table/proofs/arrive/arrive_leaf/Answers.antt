@@ -2,7 +2,7 @@ use Rattle.std.proofs.Common.{sym, ◌∙◌, subst}
 use Rattle.std.specs.Prelude.{IfSome}
 use Rattle.std.proofs.lemmas.Result.{on_ok_weaker}
 use Rattle.assign_table.specs.inside.Arrivals.{gate_setting}
-use Rattle.assign_table.specs.inside.Order.{IsListedOn}
+use Rattle.assign_table.specs.inside.Cells.{IsListedOn}
 use Rattle.assign_table.specs.inside.Sheet.{sheet_of}
 use Rattle.assign_table.proofs.ArriveLaws.{leaf_arrives, leaf_is, leaf_listed}
 use Rattle.assign_table.proofs.arrive.arrive_leaf.Goals as goal

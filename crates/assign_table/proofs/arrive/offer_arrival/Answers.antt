@@ -1,6 +1,7 @@
 use Rattle.std.proofs.lemmas.Result.{on_ok_weaker}
 use Rattle.assign_table.specs.inside.Sheet.{sheet_of}
 use Rattle.assign_table.proofs.ArriveLaws.{arrival_crowded, arrival_open}
+use Rattle.assign_table.proofs.CrossLaws.{none-crossed}
 use Rattle.assign_table.proofs.GainLaws.{on-both}
 use Rattle.assign_table.proofs.OrderLaws.{offered-listed}
 use Rattle.assign_table.proofs.arrive.offer_arrival.Goals as goal
@@ -21,3 +22,6 @@ pub returns-clause-crowded : goal.returns-clause-crowded
 returns-clause-crowded c = λ full.
     arrival_crowded c.args.gate c.args.room (sheet_of c.args.table.now) c.args.state c.args.label c.args.way c.requires.opened c.requires.arrives
     (c.offer.ensures.refused full)
+
+pub offer-requires : goal.offer-requires
+offer-requires c = record { crossed = none-crossed (sheet_of c.args.table.now).cells c.args.state c.args.table.now.front }

@@ -11,6 +11,6 @@ use Rattle.assign_table.proofs.labels.sorted_from.Goals as goal
 pub returns : goal.returns
 returns c =
     subst (AreEntriesOf c.args.settled.now c.args.from c.args.to) (sym c.of.ensures)
-    (sorted_entries c.args.settled.now c.args.from c.args.to c.sort_by_key.new.self.items c.requires.inside c.requires.apart
-    (subst (λ es. IsPermutation es c.sort_by_key.new.self.items) c.in_ok-entries.ensures c.in_ok-sort_by_key.ensures.permutation)
-    (c.in_ok-sort_by_key.ensures.sorted (λ (e : Entry). e.state) (answers_always _ _ _ (λ f a r f' called. search rules))))
+    (sorted_entries c.args.settled.now c.args.from c.args.to c.sort_unstable_by_key.new.self.items c.requires.inside c.requires.apart
+    (subst (λ es. IsPermutation es c.sort_unstable_by_key.new.self.items) c.in_ok-entries.ensures c.sort_unstable_by_key.ensures.permutation)
+    (c.sort_unstable_by_key.ensures.sorted (λ (e : Entry). e.state) (answers_always _ _ _ (λ f a r f' called. search rules))))

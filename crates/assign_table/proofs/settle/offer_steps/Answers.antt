@@ -15,18 +15,18 @@ returns-in_err-offer_crypts-clause-full c = λ full.
 pub returns-clause-continues : goal.returns-clause-continues
 returns-clause-continues c =
     on_ok_weaker c.offer_sends.result
-    (continues-then (setting_of c.args.job.now) c.args.node.0 c.args.room c.args.at c.args.from.now (sheet_of c.args.table.now)
+    (continues-then (setting_of c.args.job.now) c.args.node.0 c.args.room c.args.at c.args.taken.now.settled (sheet_of c.args.table.now)
     (sheet_of c.offer_crypts.new.table) (sheet_of c.offer_sends.new.table) c.in_ok-offer_crypts.ensures.continues)
     c.offer_sends.ensures.continues
 
 pub returns-clause-closed : goal.returns-clause-closed
 returns-clause-closed c =
     on-both c.offer_sends.result
-    (steps-closed (setting_of c.args.job.now) c.args.node.0 c.args.room c.args.at c.args.from.now (sheet_of c.offer_crypts.new.table)
+    (steps-closed (setting_of c.args.job.now) c.args.node.0 c.args.room c.args.at c.args.taken.now.settled (sheet_of c.offer_crypts.new.table)
     (sheet_of c.offer_sends.new.table) c.in_ok-offer_crypts.ensures.tried)
     c.offer_sends.ensures.continues c.offer_sends.ensures.tried
 
 pub returns-clause-full : goal.returns-clause-full
 returns-clause-full c = λ full.
-    crowd-later (setting_of c.args.job.now) c.args.node.0 c.args.room c.args.at c.args.from.now (sheet_of c.args.table.now)
+    crowd-later (setting_of c.args.job.now) c.args.node.0 c.args.room c.args.at c.args.taken.now.settled (sheet_of c.args.table.now)
     (sheet_of c.offer_crypts.new.table) c.in_ok-offer_crypts.ensures.continues (c.offer_sends.ensures.full full)
