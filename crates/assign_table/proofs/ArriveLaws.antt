@@ -17,9 +17,13 @@ use Rattle.plan_algebra.specs.declared.kind.Kind.TheVariants as kind
 use Rattle.plan_algebra.specs.Nodes.{leaf_node}
 use Rattle.extended_plan.specs.declared.state.State.{State}
 use Rattle.extended_plan.specs.Gains.{Gain, leaf_gain}
-use Rattle.extended_plan.specs.Job.{AreOperands, IsOperand, IsStateAt, told}
+use Rattle.relation_profile.specs.Profile.{Profile}
+use Rattle.extended_plan.specs.Job.{AreOperands, IsHeldAt, IsOperand, IsStateAt, told}
 use Rattle.extended_plan.specs.Ready.{IfBase, IsLeafOf, IsReady}
 use Rattle.extended_plan.specs.Setting.{Setting, is_base, kind_at, leaf_of, op_at}
+use Rattle.extended_plan.specs.Term.{holder}
+use Rattle.extended_plan.specs.Validity.{may_hold}
+use Rattle.extended_plan.proofs.ListLaws.{own_held}
 use Rattle.extended_plan.proofs.PlaceLaws.{one_known, two_known}
 use Rattle.extended_plan.proofs.ViewLaws.{seen}
 use Rattle.assign_table.specs.declared.gate.Gate.{Gate}
@@ -42,12 +46,19 @@ use Rattle.assign_table.proofs.SettleLaws.{cut-both, gathered-offered, gathered-
 use Rattle.assign_table.proofs.SpanLaws.{first_low, span_at}
 use Rattle.assign_table.proofs.WayLaws.{bin_attained, leaf_attained, un_attained}
 
--- a state that is attained at a node is one of the node
+-- a state that is attained at a node is one of the node, and its holder may hold the table
+pub attained_held : (s : Setting) → IsReady s → (arena : List Settled) (n base top : ℕ) (st : State) (label : ℕ) (way : Way)
+    → IsAttained s arena n base top st label way → IsHeldAt s n st
+attained_held s ready arena n base top st label way is =
+    let at = seen s ready n is.term is.stands.gives is.stands.runs in
+    subst (IsHeldAt s n) is.arrives (record {
+      at = record { known = at.known; view = at.view };
+      held = subst (λ (p : Profile). may_hold s (holder s is.term) p ≡ true) (sym at.shows) (own_held s is.term is.stands.held);
+    })
+
 pub attained_known : (s : Setting) → IsReady s → (arena : List Settled) (n base top : ℕ) (st : State) (label : ℕ) (way : Way)
     → IsAttained s arena n base top st label way → IsStateAt s n st
-attained_known s ready arena n base top st label way is =
-    let at = seen s ready n is.term is.stands.gives is.stands.runs in
-    subst (IsStateAt s n) is.arrives (record { known = at.known; view = at.view })
+attained_known s ready arena n base top st label way is = (attained_held s ready arena n base top st label way is).at
 
 -- one thing was offered after the other
 pub open_then : (gate : Gate) (room : ℕ) (old mid new : Sheet) → StaysOpen gate room old mid → StaysOpen gate room mid new
@@ -62,7 +73,7 @@ pub arrival_open : (gate : Gate) → IsReady (gate_setting gate) → (room : ℕ
 arrival_open gate ready room old new st label way gathered here offered within = record {
   opened =
       gathered-offered (gate_setting gate) gate.node.0 (gate_base gate) room gate.settled.now old new st label way gathered offered here
-      (attained_known (gate_setting gate) ready gate.settled.now gate.node.0 (gate_base gate) (length gate.settled.now + 1) st label way here) within;
+      (attained_held (gate_setting gate) ready gate.settled.now gate.node.0 (gate_base gate) (length gate.settled.now + 1) st label way here.attained) within;
   lower = offered-lower old new st label way offered;
 }
 
@@ -140,8 +151,10 @@ leaf_is s ready n below t used is = (subst (λ o. IfBase o (IsLeafOf s n)) is (r
 
 pub leaf_arrives : (gate : Gate) → IsReady (gate_setting gate) → IsGate gate → (t : TableId) (st : State)
     → leaf_of (gate_setting gate) t ≡ Some gate.node.0 → leaf_gain (gate_setting gate) t ≡ Some st → IsArrival gate st 0 (way.Leaf t)
-leaf_arrives gate ready is t st gives gains =
-    leaf_attained (gate_setting gate) ready gate.settled.now gate.node.0 (gate_base gate) t st gives gains (base_low gate ready is)
+leaf_arrives gate ready is t st gives gains = record {
+  attained = leaf_attained (gate_setting gate) ready gate.settled.now gate.node.0 (gate_base gate) t st gives gains (base_low gate ready is);
+  traced = tt;
+}
 
 -- and no other one does
 leaf_same : (s : Setting) (n : ℕ) (t u : TableId) (used : AttrSet) → op_at s n ≡ op.Base t used → leaf_of s u ≡ Some n → t ≡ u
@@ -178,8 +191,11 @@ one_place gate ready is c w same at =
           subst (λ k. IsOperand s k (gate_at gate w).state) (sym same)
           (attained_known s ready gate.settled.now c.0 (base_of s gate.starts.now c.0) (w + 1) _ _ _ from);
       leads = λ gain gains.
-          un_attained s ready gate.settled.now gate.node c (gate_base gate) w (gate_at gate w) gain same (there gate w low)
-          (subst (λ b. IsAttainedAt s gate.settled.now c.0 b w) base from) gains;
+          record {
+            attained = un_attained s ready gate.settled.now gate.node c (gate_base gate) w (gate_at gate w) gain same (there gate w low)
+                (subst (λ b. IsAttainedAt s gate.settled.now c.0 b w) base from) gains;
+            traced = tt;
+          };
     }
 
 -- and a node of two
@@ -217,8 +233,12 @@ two_places gate ready is v w pair =
       known = attained_known s ready gate.settled.now c.0 (base_of s gate.starts.now c.0) (v + 1) _ _ _ from;
       known_too = attained_known s ready gate.settled.now d.0 (base_of s gate.starts.now d.0) (w + 1) _ _ _ from_too;
       leads = λ gain gains.
-          bin_attained s ready gate.settled.now gate.node c d (gate_base gate) (base_of s gate.starts.now d.0) v w (gate_at gate v)
-          (gate_at gate w) gain pair.kind (there gate v low) (there gate w low_too) middle (subst (λ b. IsAttainedAt s gate.settled.now c.0 b v) base from) from_too gains;
+          record {
+            attained = bin_attained s ready gate.settled.now gate.node c d (gate_base gate) (base_of s gate.starts.now d.0) v w (gate_at gate v)
+                (gate_at gate w) gain pair.kind (there gate v low) (there gate w low_too) middle
+                (subst (λ b. IsAttainedAt s gate.settled.now c.0 b v) base from) from_too gains;
+            traced = tt;
+          };
     }
 
 pub two_operands : (gate : Gate) (v w : ℕ) → IsTwoPlace gate v w

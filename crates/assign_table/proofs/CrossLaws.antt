@@ -1,481 +1,250 @@
--- Attributes across which a state has a settled neighbour: across and back again is where one was, a step across them gains nothing that
--- is not listed, and so it stays as a table grows and its labels fall.
-use Rattle.std.proofs.Common.{◌≡◌, ℕ, zero, suc, ◌+◌, ◌^◌, ◌%◌, ◌≤◌, ◌<◌, ◌==◌, ◌⊎◌, inl, inr, Bool, true, false, ◌&&◌, ◌||◌, not, List, [], ◌∷◌, ◌++◌, length, get_or, take, Option, Some, None, cond, if◌then◌else◌, bit_or, bit_xor, refl, sym, ◌∙◌, ap, subst, true≢false, arith}
-use Rattle.std.specs.Prelude.{IfSome, IsSomeAnd, option_map, slice_get, slice_set}
-use Rattle.std.specs.Int.{bit_at}
-use Rattle.std.specs.Map.{keys_of, values_of}
-use Rattle.std.proofs.lemmas.Bool.{eqb-false, eqb-true}
-use Rattle.std.proofs.lemmas.List.{get_or-set_other, get_or-set_same, get_or-take, get_or_append_left, get_or_default, get_or_push, length-take-le, length_push}
-use Rattle.std.proofs.lemmas.Map.Entries.{length-keys_of}
-use Rattle.std.proofs.lemmas.Nat.Bits.{bit_at-lt, bit_at_xor, same_from_bits}
-use Rattle.base_laws.specs.Sets.{has, with_member, without}
-use Rattle.base_laws.proofs.SetLaws.{has-bit_or, has-empty, has-single, has-without, same_members}
-use Rattle.mq_base.specs.declared.attr_set.AttrSet.{AttrSet}
+-- What is gained across attributes: it is met as other gains are, and where a node's states are settled, the states across all attributes
+-- that their holders see plain are, though from a state that was itself reached across one, only those before it are tried.
+use Rattle.std.proofs.Common.{◌≡◌, ℕ, zero, suc, ◌+◌, ◌-◌, ◌^◌, ◌≤◌, ◌<◌, ◌==◌, ◌⊎◌, inl, inr, Bool, true, false, ◌&&◌, List, [], length, Option, Some, None, if◌then◌else◌, bit_and, slice_get, refl, sym, ◌∙◌, ap, subst, arith, min}
+use Rattle.std.specs.Prelude.{IfSome, option_map}
+use Rattle.std.proofs.lemmas.Nat.Bits.{bit_at_ones}
+use Rattle.std.proofs.lemmas.Option.{get_or_from_slice_get}
+use Rattle.base_laws.specs.Sets.{has, IsWithin}
+use Rattle.base_laws.proofs.SetLaws.{has-bit_and}
 use Rattle.mq_base.specs.declared.ids.AttrId.{AttrId}
-use Rattle.mq_base.specs.declared.ids.SubjectId.{SubjectId}
 use Rattle.mq_base.specs.declared.ids.NodeId.{NodeId}
+use Rattle.mq_base.specs.declared.plan.Step.{Step}
 use Rattle.mq_base.specs.declared.plan.Step.TheVariants as step
-use Rattle.cost_model.specs.Costs.{cut, step_work}
-use Rattle.relation_profile.specs.Profile.{Profile}
-use Rattle.relation_profile.specs.Steps.{after_dec, after_enc}
-use Rattle.relation_profile.specs.View.{view_of}
+use Rattle.cost_model.specs.Costs.{cut, sealing}
 use Rattle.extended_plan.specs.declared.state.State.{State}
-use Rattle.extended_plan.specs.Gains.{Gain, dec_gain, enc_gain, held, shown, step_gain}
-use Rattle.extended_plan.specs.Job.{told}
-use Rattle.extended_plan.specs.Setting.{Setting, known_at}
-use Rattle.extended_plan.specs.States.{state_eq}
-use Rattle.extended_plan.specs.Validity.{may_hold}
-use Rattle.indexmap.specs.IndexMap.{insert_entry, set_value_at}
+use Rattle.extended_plan.specs.Gains.{Gain, across, cross_gain, crossable, dec_gain, enc_gain, step_gain}
+use Rattle.extended_plan.specs.Job.{IsHeldAt}
+use Rattle.extended_plan.specs.Setting.{Setting}
+use Rattle.extended_plan.proofs.CrossLaws.{across-back, across-turned, crypts_across}
 use Rattle.assign_table.specs.declared.cell.Cell.{Cell}
-use Rattle.assign_table.specs.declared.table.Table.{Table}
 use Rattle.assign_table.specs.declared.way.Settled.{Settled}
-use Rattle.assign_table.specs.inside.Cells.{IsListedOn, cell_of, state_at}
-use Rattle.assign_table.specs.inside.Crossing.{AreAllCrossed, AreCrossed, across, crossed_at}
-use Rattle.assign_table.specs.inside.Settling.{AreCryptsListed, Continues, IsFront, IsGainListed}
-use Rattle.assign_table.specs.inside.Sheet.{Sheet, sheet_of}
-use Rattle.assign_table.proofs.ArenaLaws.{below-or-last}
-use Rattle.assign_table.proofs.QueueLaws.{entry-last, keys-last, keys-set, length-set, state_at-last}
+use Rattle.assign_table.specs.declared.way.Way.{Way}
+use Rattle.assign_table.specs.declared.way.Way.TheVariants as way
+use Rattle.assign_table.specs.inside.Blocks.{IsFrom, IsSettled}
+use Rattle.assign_table.specs.inside.Crossing.{IsCrossed, IsTraced, IsTried, crossed_label, crossing}
+use Rattle.assign_table.specs.inside.Cells.{IsListedOn}
+use Rattle.assign_table.specs.inside.Settling.{IsGainIn, Stays}
+use Rattle.assign_table.specs.inside.Ways.{settled_at}
 
--- what is listed, in two spellings
-pub low-listed : (cells : List (State × Cell)) (st : State) (most : ℕ) → IsSomeAnd (cell_of cells st) (λ cell. cell.label ≤ most)
-    → IsListedOn cells st most
-low-listed cells st most low = by_cell (cell_of cells st) refl low
+-- what is gained across an attribute
+pub record IsAcross (s : Setting) (n : ℕ) (a : ℕ) (st : State) (gain : Gain) : Type 0 where
+  pub crosses : has (crossable s n st.holder) a ≡ true
+  pub state : gain.state ≡ across a st
+  pub cost : gain.cost ≡ sealing s.basis a st.holder.0 n
+
+pub gained-across : (s : Setting) (n : ℕ) (a : AttrId) (st : State) (gain : Gain) → cross_gain s n a st ≡ Some gain → IsAcross s n a.0 st gain
+gained-across s n a st gain is = by_test (has (crossable s n st.holder) a.0) refl
   where
-    by_cell : (found : Option Cell) → cell_of cells st ≡ found → IsSomeAnd found (λ cell. cell.label ≤ most) → IsListedOn cells st most
-    by_cell None is low = absurd low
-    by_cell (Some cell) is low = record { cell = cell; listed = is; enough = low }
+    there : Gain
+    there = record { state = across a.0 st; cost = sealing s.basis a.0 st.holder.0 n }
 
-pub listed-low : (cells : List (State × Cell)) (st : State) (most : ℕ) → IsListedOn cells st most
-    → IsSomeAnd (cell_of cells st) (λ cell. cell.label ≤ most)
-listed-low cells st most is =
-    subst (λ found. IsSomeAnd found (λ cell. cell.label ≤ most)) (sym is.listed) is.enough
-
--- ---- across an attribute
-
-bit_is : (b : ℕ) → b < 2 → (b ≡ 0) ⊎ (b ≡ 1)
-bit_is b small = grind arith
-
-twice : (a b : ℕ) → a < 2 → b < 2 → ((a + b) % 2 + b) % 2 ≡ a
-twice a b small_a small_b = by_bits (bit_is a small_a) (bit_is b small_b)
-  where
-    by_bits : (a ≡ 0) ⊎ (a ≡ 1) → (b ≡ 0) ⊎ (b ≡ 1) → ((a + b) % 2 + b) % 2 ≡ a
-    by_bits (inl p) (inl q) = rw (p, q) refl
-    by_bits (inl p) (inr q) = rw (p, q) refl
-    by_bits (inr p) (inl q) = rw (p, q) refl
-    by_bits (inr p) (inr q) = rw (p, q) refl
-
-xor-back : (s t : ℕ) → bit_xor (bit_xor s t) t ≡ s
-xor-back s t =
-    same_from_bits (bit_xor (bit_xor s t) t) s
-    (λ i.
-    bit_at_xor (bit_xor s t) t i ∙ ap (λ k. (k + bit_at t i) % 2) (bit_at_xor s t i)
-    ∙ twice (bit_at s i) (bit_at t i) (bit_at-lt s i) (bit_at-lt t i))
-
-xor_test : (a b : ℕ) → a < 2 → b < 2 → ((a + b) % 2 == 1) ≡ (if b == 1 then not (a == 1) else (a == 1))
-xor_test a b small_a small_b = by_bits (bit_is a small_a) (bit_is b small_b)
-  where
-    by_bits : (a ≡ 0) ⊎ (a ≡ 1) → (b ≡ 0) ⊎ (b ≡ 1) → ((a + b) % 2 == 1) ≡ (if b == 1 then not (a == 1) else (a == 1))
-    by_bits (inl p) (inl q) = rw (p, q) refl
-    by_bits (inl p) (inr q) = rw (p, q) refl
-    by_bits (inr p) (inl q) = rw (p, q) refl
-    by_bits (inr p) (inr q) = rw (p, q) refl
-
-has-xor : (s t i : ℕ) → has (bit_xor s t) i ≡ (if has t i then not (has s i) else has s i)
-has-xor s t i = ap (λ k. k == 1) (bit_at_xor s t i) ∙ xor_test (bit_at s i) (bit_at t i) (bit_at-lt s i) (bit_at-lt t i)
-
--- a set with one member put in or taken out
-put-in : (s a : ℕ) → has s a ≡ false → with_member s a ≡ bit_xor s (2 ^ a)
-put-in s a out = same_members (with_member s a) (bit_xor s (2 ^ a)) (λ i. by_test i (a == i) refl)
-  where
-    by_test : (i : ℕ) (b : Bool) → (a == i) ≡ b → has (with_member s a) i ≡ has (bit_xor s (2 ^ a)) i
-    by_test i true is =
-        let same : a ≡ i = eqb-true a i is in
-        let there : has s i ≡ false = subst (λ k. has s k ≡ false) same out in
-        has-bit_or s (2 ^ a) i ∙ ap (λ b. has s i || b) (has-single a i ∙ is) ∙ ap (λ b. b || true) there
-        ∙ sym (has-xor s (2 ^ a) i ∙ ap (λ b. if b then not (has s i) else has s i) (has-single a i ∙ is) ∙ ap not there)
-    by_test i false is =
-        has-bit_or s (2 ^ a) i ∙ ap (λ b. has s i || b) (has-single a i ∙ is) ∙ or_none (has s i)
-        ∙ sym (has-xor s (2 ^ a) i ∙ ap (λ b. if b then not (has s i) else has s i) (has-single a i ∙ is))
-      where
-        or_none : (b : Bool) → (b || false) ≡ b
-        or_none true = refl
-        or_none false = refl
-
-taken-out : (s a : ℕ) → has s a ≡ true → without s (2 ^ a) ≡ bit_xor s (2 ^ a)
-taken-out s a inside = same_members (without s (2 ^ a)) (bit_xor s (2 ^ a)) (λ i. by_test i (a == i) refl)
-  where
-    by_test : (i : ℕ) (b : Bool) → (a == i) ≡ b → has (without s (2 ^ a)) i ≡ has (bit_xor s (2 ^ a)) i
-    by_test i true is =
-        let same : a ≡ i = eqb-true a i is in
-        let there : has s i ≡ true = subst (λ k. has s k ≡ true) same inside in
-        has-without s (2 ^ a) i ∙ ap (λ b. has s i && not b) (has-single a i ∙ is) ∙ ap (λ b. b && false) there
-        ∙ sym (has-xor s (2 ^ a) i ∙ ap (λ b. if b then not (has s i) else has s i) (has-single a i ∙ is) ∙ ap not there)
-    by_test i false is =
-        has-without s (2 ^ a) i ∙ ap (λ b. has s i && not b) (has-single a i ∙ is) ∙ and_all (has s i)
-        ∙ sym (has-xor s (2 ^ a) i ∙ ap (λ b. if b then not (has s i) else has s i) (has-single a i ∙ is))
-      where
-        and_all : (b : Bool) → (b && true) ≡ b
-        and_all true = refl
-        and_all false = refl
-
--- across an attribute twice is back
-pub across-back : (a : ℕ) (st : State) → across a (across a st) ≡ st
-across-back a st =
-    ap (λ (set : ℕ). record {
-      holder = st.holder;
-      view = record { enc = record { 0 = set }; ip = st.view.ip; ie = st.view.ie };
-    })
-    (xor-back st.view.enc.0 (2 ^ a))
-
--- ---- what a step across an attribute gains
-
--- what a holder gains that it may hold
-held-state : (s : Setting) (holder : SubjectId) (p : Profile) (cost : ℕ) (gain : Gain) → held s holder (Some p) cost ≡ Some gain
-    → gain.state ≡ record { holder = holder; view = view_of p }
-held-state s holder p cost gain is = by_test (may_hold s holder p) refl
-  where
-    by_test : (b : Bool) → may_hold s holder p ≡ b → gain.state ≡ record { holder = holder; view = view_of p }
-    by_test true may =
-        let some : Some (record { state = record { holder = holder; view = view_of p }; cost = cost }) ≡ Some gain =
-        sym (ap (λ b. if b then Some (record { state = record { holder = holder; view = view_of p }; cost = cost }) else None) may) ∙ is in
-        let same : record { state = record { holder = holder; view = view_of p }; cost = cost } ≡ gain = cc in
-        sym (ap (λ (g : Gain). g.state) same)
-    by_test false may =
-        let none : None ≡ Some gain =
-        sym (ap (λ b. if b then Some (record { state = record { holder = holder; view = view_of p }; cost = cost }) else None) may) ∙ is in
-        cc
-
--- a state with other encrypted attributes
-abbrev sealed_as : State → ℕ → State
-sealed_as st set = record { holder = st.holder; view = record { enc = record { 0 = set }; ip = st.view.ip; ie = st.view.ie } }
-
-pub enc-across : (s : Setting) (n : ℕ) (a : AttrId) (st : State) (gain : Gain) → enc_gain s n a st ≡ Some gain → gain.state ≡ across a.0 st
-enc-across s n a st gain is = by_test (has (without (known_at s n).visible.0 st.view.enc.0) a.0) refl
-  where
-    work : ℕ
-    work = step_work s.basis (step.Enc a) st.holder.0 n st.view
-
-    out : has (without (known_at s n).visible.0 st.view.enc.0) a.0 ≡ true → has st.view.enc.0 a.0 ≡ false
-    out there = plain (has (known_at s n).visible.0 a.0) (has st.view.enc.0 a.0) (sym (has-without (known_at s n).visible.0 st.view.enc.0 a.0) ∙ there)
-      where
-        plain : (x y : Bool) → (x && not y) ≡ true → y ≡ false
-        plain true true is = sym is
-        plain true false is = refl
-        plain false y is = absurd (true≢false (sym is))
-
-    by_test : (b : Bool) → has (without (known_at s n).visible.0 st.view.enc.0) a.0 ≡ b → gain.state ≡ across a.0 st
-    by_test true there =
-        held-state s st.holder (after_enc a.0 (shown s n st)) work gain
-        (sym (ap (λ b. held s st.holder (if b then Some (after_enc a.0 (shown s n st)) else None) work) there) ∙ is)
-        ∙ ap (λ b.
+    by_test : (b : Bool) → has (crossable s n st.holder) a.0 ≡ b → IsAcross s n a.0 st gain
+    by_test true crosses =
+        let some : Some there ≡ Some gain = sym (ap (λ b. if b then Some there else None) crosses) ∙ is in
+        let same : there ≡ gain = cc in
         record {
-          holder = st.holder;
-          view = view_of
-              (if b
-              then record (shown s n st) {
-                visible_plain = without (shown s n st).visible_plain (2 ^ a.0);
-                visible_encrypted = with_member (shown s n st).visible_encrypted a.0;
-              }
-              else shown s n st);
-        }) there
-        ∙ ap (sealed_as st) (put-in st.view.enc.0 a.0 (out there))
-    by_test false there =
-        let none : None ≡ Some gain =
-        sym (ap (λ b. held s st.holder (if b then Some (after_enc a.0 (shown s n st)) else None) work) there) ∙ is in
-        cc
-
-pub dec-across : (s : Setting) (n : ℕ) (a : AttrId) (st : State) (gain : Gain) → dec_gain s n a st ≡ Some gain → gain.state ≡ across a.0 st
-dec-across s n a st gain is = by_test (has st.view.enc.0 a.0) refl
-  where
-    work : ℕ
-    work = step_work s.basis (step.Dec a) st.holder.0 n st.view
-
-    by_test : (b : Bool) → has st.view.enc.0 a.0 ≡ b → gain.state ≡ across a.0 st
-    by_test true there =
-        held-state s st.holder (after_dec a.0 (shown s n st)) work gain
-        (sym (ap (λ b. held s st.holder (if b then Some (after_dec a.0 (shown s n st)) else None) work) there) ∙ is)
-        ∙ ap (λ b.
-        record {
-          holder = st.holder;
-          view = view_of
-              (if b
-              then record (shown s n st) {
-                visible_plain = with_member (shown s n st).visible_plain a.0;
-                visible_encrypted = without (shown s n st).visible_encrypted (2 ^ a.0);
-              }
-              else shown s n st);
-        }) there
-        ∙ ap (sealed_as st) (taken-out st.view.enc.0 a.0 there)
-    by_test false there =
-        let none : None ≡ Some gain =
-        sym (ap (λ b. held s st.holder (if b then Some (after_dec a.0 (shown s n st)) else None) work) there) ∙ is in
-        cc
-
--- what a step across an attribute gains is listed, where the state across it is, with no higher label
-gained-listed : (cells : List (State × Cell)) (e : Settled) (other : State) (found : Option Gain) → e.label < 2 ^ 128
-    → IsListedOn cells other e.label → ((gain : Gain) → found ≡ Some gain → gain.state ≡ other) → IfSome found (IsGainListed cells e.label)
-gained-listed cells e other None fits listed same = tt
-gained-listed cells e other (Some gain) fits listed same =
-    let low : listed.cell.label ≤ e.label = listed.enough in
-    subst (λ st. IsListedOn cells st (cut (e.label + gain.cost))) (sym (same gain refl))
-    (record { cell = listed.cell; listed = listed.listed; enough = omega arith })
-
-pub crypts-crossed : (s : Setting) (n : ℕ) (cells : List (State × Cell)) (e : Settled) (crossed : ℕ) (a : AttrId) → e.label < 2 ^ 128
-    → AreCrossed cells e.state crossed e.label → has crossed a.0 ≡ true → AreCryptsListed s n a cells e
-crypts-crossed s n cells e crossed a fits listed there = record {
-  enc = gained-listed cells e (across a.0 e.state) (enc_gain s n a e.state) fits (low-listed cells (across a.0 e.state) e.label (listed a.0 there)) (enc-across s n a e.state);
-  dec = gained-listed cells e (across a.0 e.state) (dec_gain s n a e.state) fits (low-listed cells (across a.0 e.state) e.label (listed a.0 there)) (dec-across s n a e.state);
-}
-
--- the step was taken across the attribute from a state that is listed, so that state is across it from what was gained
-crossing_of : (cells : List (State × Cell)) (e : Settled) (front : ℕ) (a : AttrId) (found : Option Gain) → IsListedOn cells e.state e.label
-    → e.label ≤ front → ((gain : Gain) → found ≡ Some gain → gain.state ≡ across a.0 e.state)
-    → IfSome found (λ gain. AreCrossed cells gain.state (2 ^ a.0) front)
-crossing_of cells e front a None listed low same = tt
-crossing_of cells e front a (Some gain) listed low same = λ b there.
-    let one : a.0 ≡ b = eqb-true a.0 b (sym (has-single a.0 b) ∙ there) in
-    let back : across b gain.state ≡ e.state =
-    ap (λ k. across k gain.state) (sym one) ∙ ap (across a.0) (same gain refl) ∙ across-back a.0 e.state in
-    let below : listed.cell.label ≤ e.label = listed.enough in
-    listed-low cells (across b gain.state) front
-    (subst (λ st. IsListedOn cells st front) (sym back) (record { cell = listed.cell; listed = listed.listed; enough = omega arith }))
-
-pub crossing : (s : Setting) (n : NodeId) (cells : List (State × Cell)) (e : Settled) (front : ℕ) (a : AttrId) (b : Bool)
-    → IsListedOn cells e.state e.label → e.label ≤ front
-    → IfSome (step_gain s n (if b then step.Dec a else step.Enc a) e.state None) (λ gain. AreCrossed cells gain.state (2 ^ a.0) front)
-crossing s n cells e front a true listed low =
-    crossing_of cells e front a (dec_gain s n.0 a e.state) listed low (dec-across s n.0 a e.state)
-crossing s n cells e front a false listed low =
-    crossing_of cells e front a (enc_gain s n.0 a e.state) listed low (enc-across s n.0 a e.state)
-
--- no attribute is crossed
-pub none-crossed : (cells : List (State × Cell)) (st : State) (front : ℕ) → AreCrossed cells st 0 front
-none-crossed cells st front = λ a there. absurd (true≢false (sym there ∙ has-empty a))
-
-pub none-crossing : (cells : List (State × Cell)) (found : Option Gain) (front : ℕ) → IfSome found (λ gain. AreCrossed cells gain.state 0 front)
-none-crossing cells None front = tt
-none-crossing cells (Some gain) front = none-crossed cells gain.state front
-
--- what a call told of a gain
-pub told-crossed : (found : Option Gain) (answer : State × ℕ) (cells : List (State × Cell)) (crossed front : ℕ)
-    → Some answer ≡ option_map told found → IfSome found (λ gain. AreCrossed cells gain.state crossed front)
-    → AreCrossed cells answer.0 crossed front
-told-crossed None answer cells crossed front is are = cc
-told-crossed (Some gain) answer cells crossed front is are =
-    let same : answer ≡ told gain = cc in
-    subst (λ st. AreCrossed cells st crossed front) (sym (ap (λ (p : State × ℕ). p.0) same)) are
-
--- the front stays while what is gained from it is offered
-pub front-later : (s : Setting) (n room at : ℕ) (e : Settled) (old new : Table) → IsFront old e → new.front ≡ old.front
-    → Continues s n room at e (sheet_of old) (sheet_of new) → IsFront new e
-front-later s n room at e old new front same later =
-    let low : e.label ≤ old.front = front.low in
-    record { listed = later.lower e.state e.label front.listed; low = omega arith; fits = front.fits }
-
--- and what is crossed stays so
-pub crossed-later : (s : Setting) (n room at : ℕ) (e : Settled) (old new : Sheet) (crossed : ℕ) → Continues s n room at e old new
-    → AreCrossed old.cells e.state crossed e.label → AreCrossed new.cells e.state crossed e.label
-crossed-later s n room at e old new crossed later are = λ a there.
-    listed-low new.cells (across a e.state) e.label
-    (later.lower (across a e.state) e.label (low-listed old.cells (across a e.state) e.label (are a there)))
-
--- at first each visible attribute that is not left is one that is crossed
-pub attributes-first : (s : Setting) (n : ℕ) (cells : List (State × Cell)) (e : Settled) (visible crossed left : ℕ) → e.label < 2 ^ 128
-    → left ≡ without visible crossed → AreCrossed cells e.state crossed e.label
-    → (a : AttrId) → has visible a.0 ≡ true → has left a.0 ≡ false → AreCryptsListed s n a cells e
-attributes-first s n cells e visible crossed left fits less are a there gone =
-    crypts-crossed s n cells e crossed a fits are
-    (crossed_one (has visible a.0) (has crossed a.0) there (sym (has-without visible crossed a.0) ∙ ap (λ set. has set a.0) (sym less) ∙ gone))
-  where
-    crossed_one : (x y : Bool) → x ≡ true → (x && not y) ≡ false → y ≡ true
-    crossed_one true true is none = refl
-    crossed_one true false is none = absurd (true≢false none)
-    crossed_one false y is none = absurd (true≢false (sym is))
-
--- ---- tables
-
--- what is listed with a label of at most so much is with one of at most more
-pub listed-higher : (cells : List (State × Cell)) (st : State) (most more : ℕ) → most ≤ more → IsListedOn cells st most → IsListedOn cells st more
-listed-higher cells st most more high was =
-    let low : was.cell.label ≤ most = was.enough in record { cell = was.cell; listed = was.listed; enough = omega arith }
-
-pub crossed-higher : (cells : List (State × Cell)) (st : State) (crossed most more : ℕ) → most ≤ more → AreCrossed cells st crossed most
-    → AreCrossed cells st crossed more
-crossed-higher cells st crossed most more high are = λ a there.
-    listed-low cells (across a st) more
-    (listed-higher cells (across a st) most more high (low-listed cells (across a st) most (are a there)))
-
-pub all-higher : (cells : List (State × Cell)) (crossed : List AttrSet) (front more : ℕ) → front ≤ more → AreAllCrossed cells crossed front
-    → AreAllCrossed cells crossed more
-all-higher cells crossed front more high all = λ place below.
-    crossed-higher cells (state_at (keys_of cells) place) (crossed_at crossed place).0 front more high (all place below)
-
--- what is read at a place
-crossed_there : (crossed : List AttrSet) (place : ℕ) (was : AttrSet) → place < length crossed → was ≡ get_or crossed place was
-    → crossed_at crossed place ≡ was
-crossed_there crossed place was inside there = get_or_default crossed place (record { 0 = 0 }) was inside ∙ sym there
-
-pub crossed-read : (cells : List (State × Cell)) (crossed : List AttrSet) (front most place : ℕ) (st : State) (was : AttrSet)
-    → length cells ≤ length crossed → place < length cells → was ≡ get_or crossed place was → state_at (keys_of cells) place ≡ st → front ≤ most
-    → AreAllCrossed cells crossed front → AreCrossed cells st was.0 most
-crossed-read cells crossed front most place st was each below there same high all =
-    crossed-higher cells st was.0 front most high
-    (subst (λ u. AreCrossed cells u was.0 front) same
-    (subst (λ (x : AttrSet). AreCrossed cells (state_at (keys_of cells) place) x.0 front)
-    (crossed_there crossed place was (omega arith) there) (all place below)))
-
--- attributes are told at a place
-pub all-noted : (cells : List (State × Cell)) (crossed : List AttrSet) (front place : ℕ) (was told : AttrSet) (m : ℕ)
-    → place < length crossed → was ≡ get_or crossed place was → told.0 ≡ bit_or was.0 m → AreCrossed cells (state_at (keys_of cells) place) m front
-    → AreAllCrossed cells crossed front → AreAllCrossed cells (slice_set crossed place told) front
-all-noted cells crossed front place was told m inside there union here all = λ q below. by_place q below (q == place) refl
-  where
-    stood : crossed_at crossed place ≡ was
-    stood = crossed_there crossed place was inside there
-
-    either : (x y : Bool) → (x || y) ≡ true → (x ≡ true) ⊎ (y ≡ true)
-    either true y is = inl refl
-    either false y is = inr is
-
-    by_place : (q : ℕ) → q < length cells → (b : Bool) → (q == place) ≡ b
-        → AreCrossed cells (state_at (keys_of cells) q) (crossed_at (slice_set crossed place told) q).0 front
-    by_place q below true is =
-        let same : q ≡ place = eqb-true q place is in
-        let set : crossed_at (slice_set crossed place told) place ≡ told =
-        get_or-set_same crossed place told (record { 0 = 0 }) inside in
-        subst (λ k. AreCrossed cells (state_at (keys_of cells) k) (crossed_at (slice_set crossed place told) k).0 front) (sym same)
-        (subst (λ (x : AttrSet). AreCrossed cells (state_at (keys_of cells) place) x.0 front) (sym set)
-        (subst (λ k. AreCrossed cells (state_at (keys_of cells) place) k front) (ap (λ (x : AttrSet). bit_or x.0 m) stood ∙ sym union)
-        (λ a member.
-        of_either a (either _ _ (sym (has-bit_or (crossed_at crossed place).0 m a) ∙ member))
-        (subst (λ k. k < length cells) same below))))
-      where
-        of_either : (a : ℕ) → (has (crossed_at crossed place).0 a ≡ true) ⊎ (has m a ≡ true) → place < length cells
-            → IsSomeAnd (cell_of cells (across a (state_at (keys_of cells) place))) (λ cell. cell.label ≤ front)
-        of_either a (inl old) within = all place within a old
-        of_either a (inr new) within = here a new
-    by_place q below false is =
-        subst (λ (x : AttrSet). AreCrossed cells (state_at (keys_of cells) q) x.0 front)
-        (sym (get_or-set_other crossed place q told (record { 0 = 0 }) (eqb-false q place is))) (all q below)
-
--- a cell's label falls
-listed-set : (cells : List (State × Cell)) (place : ℕ) (was cell : Cell) → slice_get (values_of cells) place ≡ Some was → cell.label ≤ was.label
-    → (other : State) (most : ℕ) → IsListedOn cells other most → IsListedOn (set_value_at cells place cell) other most
-listed-set [] place was cell there less other most is = is
-listed-set (e ∷ rest) zero was cell there less other most is = by_test (state_eq other e.0) refl
-  where
-    by_test : (b : Bool) → state_eq other e.0 ≡ b → IsListedOn ((e.0, cell) ∷ rest) other most
-    by_test true same =
-        let found : Some e.1 ≡ Some is.cell = sym (ap (λ b. cond b (Some e.1) (cell_of rest other)) same) ∙ is.listed in
-        let one : e.1 ≡ is.cell = cc in
-        let first : e.1 ≡ was = cc in
-        let low : is.cell.label ≤ most = is.enough in
-        let labels : is.cell.label ≡ was.label = ap (λ (c : Cell). c.label) (sym one ∙ first) in
-        record { cell = cell; listed = ap (λ b. cond b (Some cell) (cell_of rest other)) same; enough = omega arith }
-    by_test false apart = record {
-      cell = is.cell;
-      listed = ap (λ b. cond b (Some cell) (cell_of rest other)) apart ∙ sym (ap (λ b. cond b (Some e.1) (cell_of rest other)) apart) ∙ is.listed;
-      enough = is.enough;
-    }
-listed-set (e ∷ rest) (suc place) was cell there less other most is =
-    by_test (state_eq other e.0) refl (λ later. listed-set rest place was cell there less other most later)
-  where
-    by_test : (b : Bool) → state_eq other e.0 ≡ b → (IsListedOn rest other most → IsListedOn (set_value_at rest place cell) other most)
-        → IsListedOn (e ∷ set_value_at rest place cell) other most
-    by_test true same further = record {
-      cell = is.cell;
-      listed = ap (λ b. cond b (Some e.1) (cell_of (set_value_at rest place cell) other)) same
-          ∙ sym (ap (λ b. cond b (Some e.1) (cell_of rest other)) same) ∙ is.listed;
-      enough = is.enough;
-    }
-    by_test false apart further =
-        let later : IsListedOn (set_value_at rest place cell) other most =
-        further
-        (record { cell = is.cell; listed = sym (ap (λ b. cond b (Some e.1) (cell_of rest other)) apart) ∙ is.listed; enough = is.enough }) in
-        record {
-          cell = later.cell;
-          listed = ap (λ b. cond b (Some e.1) (cell_of (set_value_at rest place cell) other)) apart ∙ later.listed;
-          enough = later.enough;
+          crosses = crosses;
+          state = sym (ap (λ (g : Gain). g.state) same);
+          cost = sym (ap (λ (g : Gain). g.cost) same);
         }
+    by_test false crosses =
+        let none : None ≡ Some gain = sym (ap (λ b. if b then Some there else None) crosses) ∙ is in cc
 
-pub all-lowered : (cells : List (State × Cell)) (crossed : List AttrSet) (front place : ℕ) (was cell : Cell)
-    → slice_get (values_of cells) place ≡ Some was → cell.label ≤ was.label → AreAllCrossed cells crossed front
-    → AreAllCrossed (set_value_at cells place cell) crossed front
-all-lowered cells crossed front place was cell there less all = λ q below a inside.
-    let here : State = across a (state_at (keys_of cells) q) in
-    listed-low (set_value_at cells place cell) (across a (state_at (keys_of (set_value_at cells place cell)) q)) front
-    (subst (λ (states : List State). IsListedOn (set_value_at cells place cell) (across a (state_at states q)) front) (sym (keys-set cells place cell))
-    (listed-set cells place was cell there less here front
-    (low-listed cells here front (all q (subst (λ k. q < k) (length-set cells place cell) below) a inside))))
+-- an encryption or a decryption gains what is gained across its attribute
+module _ (s : Setting) (n : ℕ) (a : AttrId) (st : State) (held : IsHeldAt s n st) (gain : Gain) where
+  pub enc-across : enc_gain s n a st ≡ Some gain → IsAcross s n a.0 st gain
+  enc-across is = by_test (has st.view.enc.0 a.0) (sym (crypts_across s n a st held).enc ∙ is)
+    where
+      by_test : (b : Bool) → (if b then None else cross_gain s n a st) ≡ Some gain → IsAcross s n a.0 st gain
+      by_test true is = cc
+      by_test false is = gained-across s n a st gain is
 
--- a new state comes last
-cell_of-longer : (cells : List (State × Cell)) (c : State × Cell) (other : State) (cell : Cell) → cell_of cells other ≡ Some cell
-    → cell_of (cells ++ c ∷ []) other ≡ Some cell
-cell_of-longer [] c other cell found = cc
-cell_of-longer (e ∷ rest) c other cell found = by_test (state_eq other e.0) refl (cell_of-longer rest c other cell)
+  pub dec-across : dec_gain s n a st ≡ Some gain → IsAcross s n a.0 st gain
+  dec-across is = by_test (has st.view.enc.0 a.0) (sym (crypts_across s n a st held).dec ∙ is)
+    where
+      by_test : (b : Bool) → (if b then cross_gain s n a st else None) ≡ Some gain → IsAcross s n a.0 st gain
+      by_test true is = gained-across s n a st gain is
+      by_test false is = cc
+
+-- the one of the two that can run gains it
+pub crypt-gains : (s : Setting) (n : NodeId) (a : AttrId) (st : State) (b : Bool) → IsHeldAt s n.0 st → has st.view.enc.0 a.0 ≡ b
+    → step_gain s n (if b then step.Dec a else step.Enc a) st None ≡ cross_gain s n.0 a st
+crypt-gains s n a st true held is = (crypts_across s n.0 a st held).dec ∙ ap (λ b. if b then cross_gain s n.0 a st else None) is
+crypt-gains s n a st false held is = (crypts_across s n.0 a st held).enc ∙ ap (λ b. if b then None else cross_gain s n.0 a st) is
+
+pub crypt-stays : (a : AttrId) (b : Bool) → Stays (if b then step.Dec a else step.Enc a)
+crypt-stays a true = tt
+crypt-stays a false = tt
+
+-- what is gained from a holder that sees the attribute plain is listed at its label
+pub cross-listed : (s : Setting) (n : ℕ) (a : AttrId) (e : Settled) (cells : List (State × Cell))
+    → has (crossable s n e.state.holder) a.0 ≡ true
+    → IfSome (cross_gain s n a e.state) (λ gain. IsListedOn cells gain.state (cut (e.label + gain.cost)))
+    → IsListedOn cells (across a.0 e.state) (crossed_label s n a.0 e)
+cross-listed s n a e cells crosses listed =
+    subst (λ (found : Option Gain). IfSome found (λ gain. IsListedOn cells gain.state (cut (e.label + gain.cost))))
+    (ap (λ b. if b then Some (record { state = across a.0 e.state; cost = sealing s.basis a.0 e.state.holder.0 n }) else None) crosses) listed
+
+-- ---- traces
+
+-- a state across an attribute of one that is settled at a place
+module _ (s : Setting) (arena : List Settled) (n from top a place : ℕ) (e : Settled) (here : settled_at arena place ≡ e) (inside : IsFrom from top place)
+    (gain : Gain) (is : IsAcross s n a e.state gain) where
+  crossed_from : IsCrossed s arena n from top a place gain.state (cut (e.label + gain.cost))
+  crossed_from = record {
+    inside = inside;
+    crosses = subst (λ (f : Settled). has (crossable s n f.state.holder) a ≡ true) (sym here) is.crosses;
+    state = subst (λ (f : Settled). gain.state ≡ across a f.state) (sym here) is.state;
+    costs = subst (λ (f : Settled). cut (e.label + gain.cost) ≡ crossed_label s n a f) (sym here) (ap (λ cost. cut (e.label + cost)) is.cost);
+  }
+
+-- what a step gains that stays at its node is traced
+pub step-traced : (s : Setting) (arena : List Settled) (n : NodeId) (from at : ℕ) (e : Settled) (act : Step) (gain : Gain) → Stays act
+    → IsHeldAt s n.0 e.state → slice_get arena at ≡ Some e → IsFrom from (length arena) at → step_gain s n act e.state None ≡ Some gain
+    → IsTraced s arena n.0 from (length arena) gain.state (cut (e.label + gain.cost)) (way.One act at)
+step-traced s arena n from at e (step.Enc a) gain stays held there inside gains =
+    crossed_from s arena n.0 from (length arena) a.0 at e (get_or_from_slice_get arena at e (settled_at [] 0) there) inside gain
+    (enc-across s n.0 a e.state held gain gains)
+step-traced s arena n from at e (step.Dec a) gain stays held there inside gains =
+    crossed_from s arena n.0 from (length arena) a.0 at e (get_or_from_slice_get arena at e (settled_at [] 0) there) inside gain
+    (dec-across s n.0 a e.state held gain gains)
+step-traced s arena n from at e (step.Send to) gain stays held there inside gains = tt
+step-traced s arena n from at e (step.Base t) gain stays held there inside gains = absurd stays
+step-traced s arena n from at e (step.Un m) gain stays held there inside gains = absurd stays
+step-traced s arena n from at e (step.Bin m) gain stays held there inside gains = absurd stays
+
+-- ---- the attributes that are tried, in a loop over them
+
+-- an attribute that is tried by a way is one of those before the one across which it leads
+pub tried-before : (by : Way) (last : AttrId) (a : ℕ) → Some last ≡ option_map (λ (c : AttrId × ℕ). c.0) (crossing by) → IsTried by a → a < last.0
+tried-before by last a is tried = by_case (crossing by) is tried
   where
-    by_test : (b : Bool) → state_eq other e.0 ≡ b → (cell_of rest other ≡ Some cell → cell_of (rest ++ c ∷ []) other ≡ Some cell)
-        → cell_of (e ∷ rest ++ c ∷ []) other ≡ Some cell
-    by_test true same further =
-        ap (λ b. cond b (Some e.1) (cell_of (rest ++ c ∷ []) other)) same
-        ∙ sym (ap (λ b. cond b (Some e.1) (cell_of rest other)) same) ∙ found
-    by_test false apart further =
-        ap (λ b. cond b (Some e.1) (cell_of (rest ++ c ∷ []) other)) apart
-        ∙ further (sym (ap (λ b. cond b (Some e.1) (cell_of rest other)) apart) ∙ found)
+    by_case : (found : Option (AttrId × ℕ)) → Some last ≡ option_map (λ (c : AttrId × ℕ). c.0) found → IfSome found (λ c. a < c.0.0) → a < last.0
+    by_case None is tried = cc
+    by_case (Some c) is tried = let same : last ≡ c.0 = cc in subst (λ (b : AttrId). a < b.0) (sym same) tried
 
-listed-longer : (cells : List (State × Cell)) (c : State × Cell) (other : State) (most : ℕ) → IsListedOn cells other most
-    → IsListedOn (cells ++ c ∷ []) other most
-listed-longer cells c other most is =
-    record { cell = is.cell; listed = cell_of-longer cells c other is.cell is.listed; enough = is.enough }
+-- and is left in the set of those
+pub tried-all : (all last a : ℕ) → has all a ≡ true → a < last → has (bit_and all (2 ^ last - 1)) a ≡ true
+tried-all all last a inside low =
+    has-bit_and all (2 ^ last - 1) a ∙ ap (λ b. b && has (2 ^ last - 1) a) inside ∙ ap (λ k. k == 1) (bit_at_ones last a low)
 
--- the attributes of the states alone count
-pub all-cut : (cells : List (State × Cell)) (crossed : List AttrSet) (front : ℕ) → AreAllCrossed cells crossed front
-    → AreAllCrossed cells (take (length cells) crossed) front
-all-cut cells crossed front all = λ q below.
-    subst (λ (x : AttrSet). AreCrossed cells (state_at (keys_of cells) q) x.0 front)
-    (sym (get_or-take (length cells) crossed q (record { 0 = 0 }) below)) (all q below)
-
-pub all-longer : (cells : List (State × Cell)) (crossed : List AttrSet) (front : ℕ) (more : AttrSet) → length cells ≤ length crossed
-    → AreAllCrossed cells crossed front → AreAllCrossed cells (crossed ++ more ∷ []) front
-all-longer cells crossed front more each all = λ q below.
-    subst (λ (x : AttrSet). AreCrossed cells (state_at (keys_of cells) q) x.0 front)
-    (sym (get_or_append_left crossed (more ∷ []) (record { 0 = 0 }) q (omega arith))) (all q below)
-
-pub all-added : (cells after : List (State × Cell)) (crossed : List AttrSet) (front : ℕ) (st : State) (cell : Cell) (m : ℕ)
-    → cell_of cells st ≡ None → after ≡ insert_entry state_eq cells st cell → (crossed_at crossed (length cells)).0 ≡ m
-    → AreCrossed cells st m front → AreAllCrossed cells crossed front → AreAllCrossed after crossed front
-all-added cells after crossed front st cell m absent inserted last here all =
-    subst (λ (cs : List (State × Cell)). AreAllCrossed cs crossed front) (sym longer)
-    (λ q below. by_place q (below-or-last q (length cells) (subst (λ k. q < k) (length_push cells (st, cell)) below)))
+pub tried-within : (all others : ℕ) → IsWithin (bit_and all others) all
+tried-within all others = record { member = λ i there. left (has all i) (has others i) (sym (has-bit_and all others i) ∙ there) }
   where
-    longer : after ≡ cells ++ (st, cell) ∷ []
-    longer = inserted ∙ entry-last cells st cell absent
+    left : (x y : Bool) → (x && y) ≡ true → x ≡ true
+    left true y is = refl
+    left false y is = is
 
-    by_place : (q : ℕ) → (q < length cells) ⊎ (q ≡ length cells)
-        → AreCrossed (cells ++ (st, cell) ∷ []) (state_at (keys_of (cells ++ (st, cell) ∷ [])) q) (crossed_at crossed q).0 front
-    by_place q (inl before) = λ a there.
-        let within : q < length (keys_of cells) = subst (λ k. q < k) (sym (length-keys_of cells)) before in
-        let here : State = across a (state_at (keys_of cells) q) in
-        listed-low (cells ++ (st, cell) ∷ []) (across a (state_at (keys_of (cells ++ (st, cell) ∷ [])) q)) front
-        (subst (λ u. IsListedOn (cells ++ (st, cell) ∷ []) (across a u) front)
-        (sym (ap (λ states. state_at states q) (keys-last cells st cell) ∙ get_or_append_left (keys_of cells) (st ∷ []) _ q within))
-        (listed-longer cells (st, cell) here front (low-listed cells here front (all q before a there))))
-    by_place q (inr end) = λ a there.
-        listed-low (cells ++ (st, cell) ∷ []) (across a (state_at (keys_of (cells ++ (st, cell) ∷ [])) q)) front
-        (subst (λ u. IsListedOn (cells ++ (st, cell) ∷ []) (across a u) front)
-        (sym (ap (λ states. state_at states q) (keys-last cells st cell) ∙ ap (state_at (keys_of cells ++ st ∷ [])) (end ∙ sym (length-keys_of cells))
-        ∙ state_at-last (keys_of cells) st))
-        (listed-longer cells (st, cell) (across a st) front
-        (low-listed cells (across a st) front (here a (subst (λ k. has k a ≡ true) (ap (λ k. (crossed_at crossed k).0) end ∙ last) there)))))
+-- ---- where all is settled
 
--- a new state's attributes are put behind those of the others
-pub all-put : (cells after : List (State × Cell)) (crossed now : List AttrSet) (front place : ℕ) (st : State) (cell : Cell) (m : AttrSet)
-    → length cells ≤ length crossed → place ≡ length cells → cell_of cells st ≡ None → after ≡ insert_entry state_eq cells st cell
-    → now ≡ take place crossed ++ m ∷ [] → AreCrossed cells st m.0 front → AreAllCrossed cells crossed front → AreAllCrossed after now front
-all-put cells after crossed now front place st cell m each end absent inserted put here all =
-    let cut : List AttrSet = take (length cells) crossed in
-    let long : length cut ≡ length cells = length-take-le (length cells) crossed each in
-    subst (λ (sets : List AttrSet). AreAllCrossed after sets front) (sym (put ∙ ap (λ k. take k crossed ++ m ∷ []) end))
-    (all-added cells after (cut ++ m ∷ []) front st cell m.0 absent inserted
-    (ap (λ (x : AttrSet). x.0) (get_or_push cut m (record { 0 = 0 }) (length cells) long)) here
-    (all-longer cells cut front m (omega arith) (all-cut cells crossed front all)))
+-- a label cut once more, or less often
+cut-back : (label cost most : ℕ) → label ≤ most → label ≤ min (min (label + cost) most + cost) most
+cut-back label cost most fits = omega arith
+
+cut-turned : (label first second most low : ℕ) → low ≤ min (label + first) most
+    → min (low + second) most ≤ min (min (label + second) most + first) most
+cut-turned label first second most low less = omega arith
+
+-- a number is below another, is it, or is above it
+by-order : (a b : ℕ) → (a < b) ⊎ ((a ≡ b) ⊎ (b < a))
+by-order a b = grind arith
+
+module _ (s : Setting) (n from : ℕ) (arena : List Settled) where
+  -- the state across an attribute of that at a place is settled, at its label
+  abbrev IsCrossedIn : ℕ → ℕ → Type 0
+  IsCrossedIn a w =
+      IsSettled arena from (length arena) (across a (settled_at arena w).state) (crossed_label s n a (settled_at arena w))
+
+  abbrev Crosses : ℕ → ℕ → Type 0
+  Crosses a w = has (crossable s n (settled_at arena w).state.holder) a ≡ true
+
+  module _ (tried : (w a : ℕ) → IsFrom from (length arena) w → Crosses a w → IsTried (settled_at arena w).way a → IsCrossedIn a w)
+      (traced : (w : ℕ) → IsFrom from (length arena) w
+      → IsTraced s arena n from w (settled_at arena w).state (settled_at arena w).label (settled_at arena w).way)
+      (fits : (w : ℕ) → IsFrom from (length arena) w → (settled_at arena w).label ≤ 2 ^ 128 - 1) where
+    -- a state that was reached across an attribute from another
+    module _ (w p a b : ℕ) (inside : IsFrom from (length arena) w)
+        (at : IsCrossed s arena n from w a p (settled_at arena w).state (settled_at arena w).label) where
+      source : IsFrom from (length arena) p
+      source = let low : from ≤ p = at.inside.low in let high : p < w = at.inside.high in let end : w < length arena = inside.high in
+          record { low = at.inside.low; high = omega arith }
+
+      -- back across it is where it came from
+      crossed_back : a ≡ b → IsCrossedIn b w
+      crossed_back same =
+          subst (λ k. IsCrossedIn k w) same
+          (record {
+            place = p;
+            inside = source;
+            same = sym (ap (across a) at.state ∙ across-back a (settled_at arena p).state);
+            enough =
+                subst (λ (st : State). (settled_at arena p).label ≤ cut ((settled_at arena w).label + sealing s.basis a st.holder.0 n)) (sym at.state)
+                (subst (λ l. (settled_at arena p).label ≤ cut (l + sealing s.basis a (settled_at arena p).state.holder.0 n)) (sym at.costs)
+                (cut-back (settled_at arena p).label (sealing s.basis a (settled_at arena p).state.holder.0 n) (2 ^ 128 - 1) (fits p source)));
+          })
+
+      source_crosses : Crosses b w → Crosses b p
+      source_crosses crosses = subst (λ (st : State). has (crossable s n st.holder) b ≡ true) at.state crosses
+
+      -- across another and then across it is where it and then the other leads
+      crossed_turned : (q : ℕ) → (settled_at arena q).state ≡ across b (settled_at arena p).state
+          → (settled_at arena q).label ≤ crossed_label s n b (settled_at arena p) → IsCrossedIn a q → IsCrossedIn b w
+      crossed_turned q state label there = record {
+        place = there.place;
+        inside = there.inside;
+        same =
+            there.same ∙ ap (across a) state ∙ across-turned a b (settled_at arena p).state ∙ ap (across b) (sym at.state);
+        enough =
+            let h : ℕ = (settled_at arena p).state.holder.0 in
+            let less : (settled_at arena there.place).label ≤ cut ((settled_at arena q).label + sealing s.basis a h n) =
+            subst (λ (st : State). (settled_at arena there.place).label ≤ cut ((settled_at arena q).label + sealing s.basis a st.holder.0 n)) state there.enough in
+            let turned =
+            cut-turned (settled_at arena p).label (sealing s.basis b h n) (sealing s.basis a h n) (2 ^ 128 - 1) (settled_at arena q).label label in
+            subst (λ (st : State). (settled_at arena there.place).label ≤ cut ((settled_at arena w).label + sealing s.basis b st.holder.0 n)) (sym at.state)
+            (subst (λ l. (settled_at arena there.place).label ≤ cut (l + sealing s.basis b h n)) (sym at.costs) (at-most less turned));
+      }
+        where
+          at-most : {x y z : ℕ} → x ≤ y → y ≤ z → x ≤ z
+          at-most first second = omega (arith, first, second)
+
+    -- the state across an attribute is settled where it was not tried: by the state from which this one was reached, and by a lower attribute
+    by_way : (most b : ℕ) → b < suc most → ((a : ℕ) → a < most → (w : ℕ) → IsFrom from (length arena) w → Crosses a w → IsCrossedIn a w)
+        → (w : ℕ) → IsFrom from (length arena) w → Crosses b w
+        → ((p : ℕ) → p < w → IsFrom from (length arena) p → Crosses b p → IsCrossedIn b p) → (found : Option (AttrId × ℕ))
+        → IfSome found (λ c. IsCrossed s arena n from w c.0.0 c.1 (settled_at arena w).state (settled_at arena w).label)
+        → (IfSome found (λ c. b < c.0.0) → IsCrossedIn b w) → IsCrossedIn b w
+    by_way most b low lower w inside crosses earlier None at try = try tt
+    by_way most b low lower w inside crosses earlier (Some (a, p)) at try =
+        by_attribute (earlier p at.inside.high (source w p a.0 b inside at) (source_crosses w p a.0 b inside at crosses)) (by-order b a.0)
+      where
+        by_attribute : IsCrossedIn b p → (b < a.0) ⊎ ((b ≡ a.0) ⊎ (a.0 < b)) → IsCrossedIn b w
+        by_attribute next (inl less) = try less
+        by_attribute next (inr (inl same)) = crossed_back w p a.0 b inside at (sym same)
+        by_attribute next (inr (inr more)) =
+            crossed_turned w p a.0 b inside at next.place next.same next.enough
+            (lower a.0 (omega (arith, low, more)) next.place next.inside
+            (subst (λ (st : State). has (crossable s n st.holder) a.0 ≡ true) (sym next.same) at.crosses))
+
+    by_place : (most b : ℕ) → b < suc most → ((a : ℕ) → a < most → (w : ℕ) → IsFrom from (length arena) w → Crosses a w → IsCrossedIn a w)
+        → (top w : ℕ) → w < top → IsFrom from (length arena) w → Crosses b w → IsCrossedIn b w
+    by_place most b low lower zero w below inside crosses = absurd (omega (arith, below))
+    by_place most b low lower (suc top) w below inside crosses =
+        by_way most b low lower w inside crosses
+        (λ p before source crosses. by_place most b low lower top p (omega (arith, before, below)) source crosses)
+        (crossing (settled_at arena w).way) (traced w inside) (tried w b inside crosses)
+
+    -- and so all are
+    all_crossed : (most b : ℕ) → b < most → (w : ℕ) → IsFrom from (length arena) w → Crosses b w → IsCrossedIn b w
+    all_crossed zero b low w inside crosses = absurd (omega (arith, low))
+    all_crossed (suc most) b low w inside crosses = by_place most b low (all_crossed most) (suc w) w (omega arith) inside crosses
+
+    pub each_crossed : (w a : ℕ) → IsFrom from (length arena) w → Crosses a w → IsCrossedIn a w
+    each_crossed w a inside crosses = all_crossed (a + 1) a (omega arith) w inside crosses
+
+-- and so what each encryption and decryption gains is
+pub crossing-in : (s : Setting) (n from to : ℕ) (arena : List Settled) (w a : ℕ) (gain : Gain) → IsAcross s n a (settled_at arena w).state gain
+    → IsSettled arena from to (across a (settled_at arena w).state) (crossed_label s n a (settled_at arena w))
+    → IsGainIn arena from to (settled_at arena w).label gain
+crossing-in s n from to arena w a gain is there =
+    subst (λ (st : State). IsSettled arena from to st (cut ((settled_at arena w).label + gain.cost))) (sym is.state)
+    (subst (λ cost. IsSettled arena from to (across a (settled_at arena w).state) (cut ((settled_at arena w).label + cost))) (sym is.cost) there)

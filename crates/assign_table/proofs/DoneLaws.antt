@@ -98,8 +98,8 @@ module _ (gate : Gate) (ready : IsReady (gate_setting gate)) (is : IsGate gate) 
         (done.attained (base_of (gate_setting gate) starts n) opened.attained w (from_place w at));
     differ = λ v w at at_too less. done.apart v w (from_place v at) (from_place w at_too) less;
     closed = record {
-      enc = λ w a at. gains_here _ _ (done.enc w a (from_place w at));
-      dec = λ w a at. gains_here _ _ (done.dec w a (from_place w at));
+      enc = λ w a at. gains_here _ _ (done.enc (base_of (gate_setting gate) starts n) opened.attained w a (from_place w at));
+      dec = λ w a at. gains_here _ _ (done.dec (base_of (gate_setting gate) starts n) opened.attained w a (from_place w at));
       send = λ w to at. gains_here _ _ (done.send w to (from_place w at));
       arrived = arrived_here sheet (kind_at (gate_setting gate) n) done.arrived (ready.facts.node n is.node) listed;
     };

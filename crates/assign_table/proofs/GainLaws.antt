@@ -2,24 +2,25 @@
 use Rattle.std.proofs.Common.{◌≡◌, ℕ, ◌+◌, ◌-◌, ◌^◌, ◌≤◌, ◌<◌, ◌⊎◌, inl, inr, Bool, true, false, ◌&&◌, ◌==◌, not, List, length, Option, Some, None, Result, Ok, Err, OnOk, if◌then◌else◌, refl, sym, ◌∙◌, ap, subst, true≢false, arith, nat_lt}
 use Rattle.std.specs.Prelude.{IfSome, option_map}
 use Rattle.std.proofs.lemmas.Bool.{eqb-true, le-ltb}
-use Rattle.base_laws.specs.Sets.{has, without}
+use Rattle.base_laws.specs.Sets.{has, without, IsWithin}
+use Rattle.base_laws.proofs.MemberLaws.{without-within}
 use Rattle.base_laws.proofs.SetLaws.{has-empty, has-single, has-without}
-use Rattle.mq_base.specs.declared.ids.AttrId.{AttrId}
 use Rattle.mq_base.specs.declared.ids.SubjectId.{SubjectId}
 use Rattle.mq_base.specs.declared.ids.NodeId.{NodeId}
 use Rattle.mq_base.specs.declared.plan.Step.{Step}
 use Rattle.mq_base.specs.declared.plan.Step.TheVariants as step
 use Rattle.cost_model.specs.Costs.{cut, step_work}
-use Rattle.relation_profile.specs.Steps.{after_dec, after_enc}
 use Rattle.extended_plan.specs.declared.state.State.{State}
-use Rattle.extended_plan.specs.Gains.{Gain, dec_gain, enc_gain, held, send_gain, shown, step_gain}
-use Rattle.extended_plan.specs.Job.{IsStateAt, IsTakenOn, told}
+use Rattle.extended_plan.specs.Gains.{Gain, across, held, send_gain, shown, step_gain}
+use Rattle.extended_plan.specs.Job.{IsHeldAt, IsStateAt, IsTakenOn, told}
 use Rattle.extended_plan.specs.Ready.{IsReady}
-use Rattle.extended_plan.specs.Setting.{Setting, known_at}
+use Rattle.extended_plan.specs.Setting.{Setting}
 use Rattle.assign_table.specs.declared.cell.Cell.{Cell}
 use Rattle.assign_table.specs.declared.way.Settled.{Settled}
 use Rattle.assign_table.specs.declared.way.Way.TheVariants as way
-use Rattle.assign_table.specs.inside.Settling.{AreCryptsListed, Continues, IsClosedOn, IsGainListed, ShowsCrowd, Stays}
+use Rattle.assign_table.specs.inside.Crossing.{crossed_label}
+use Rattle.assign_table.specs.inside.Cells.{IsListedOn}
+use Rattle.assign_table.specs.inside.Settling.{AreTried, AreTriedBut, Continues, IsClosedOn, IsGainListed, ShowsCrowd, Stays}
 use Rattle.assign_table.specs.inside.Sheet.{IsOffered, IsRefused, Sheet}
 use Rattle.assign_table.proofs.ArenaLaws.{below-or-above, below-or-last}
 use Rattle.assign_table.proofs.SettleLaws.{continues-offered, crowd-gained, cut-both, gain-later, gain-listed}
@@ -61,7 +62,8 @@ pub none-listed : (s : Setting) (n : NodeId) (act : Step) (e : Settled) (cells :
 none-listed s n act e cells answers =
     subst (λ gain. IfSome gain (IsGainListed cells e.label)) (sym (told-none (step_gain s n act e.state None) answers)) tt
 
-module _ (s : Setting) (ready : IsReady s) (n : NodeId) (room at : ℕ) (e : Settled) (act : Step) (stays : Stays act) (st : State) (cost label : ℕ)
+module _ (s : Setting) (ready : IsReady s) (n : NodeId) (room at : ℕ) (e : Settled) (held : IsHeldAt s n.0 e.state) (act : Step) (stays : Stays act)
+    (st : State) (cost label : ℕ)
     (answers : Some (st, cost) ≡ option_map told (step_gain s n act e.state None)) (sum : label ≡ cut (e.label + cost)) where
   gain_told : IsTold (step_gain s n act e.state None) st cost
   gain_told = told-gain (step_gain s n act e.state None) (st, cost) answers
@@ -73,81 +75,26 @@ module _ (s : Setting) (ready : IsReady s) (n : NodeId) (room at : ℕ) (e : Set
   offered_told old new offered = subst (λ st. IsOffered old st label (way.One act at) new) (sym gain_told.state) offered
 
   -- a step that gains something was offered
-  pub step-continues : (old new : Sheet) → e.label ≤ label → IsStateAt s n.0 st → IsOffered old st label (way.One act at) new
+  pub step-continues : (old new : Sheet) → e.label ≤ label → IsHeldAt s n.0 st → IsOffered old st label (way.One act at) new
       → (length old.cells ≤ room → length new.cells ≤ room) → Continues s n.0 room at e old new
   step-continues old new high known offered within =
-      continues-offered s ready n room at e act stays gain_told.gain gain_told.is old new label sum_told high (offered_told old new offered)
-      (subst (IsStateAt s n.0) (sym gain_told.state) known) within
+      continues-offered s ready n room at e held act stays gain_told.gain gain_told.is old new label sum_told high (offered_told old new offered)
+      (subst (IsHeldAt s n.0) (sym gain_told.state) known) within
 
   -- and what it gains is listed
   pub step-listed : (old new : Sheet) → IsOffered old st label (way.One act at) new
       → IfSome (step_gain s n act e.state None) (IsGainListed new.cells e.label)
   step-listed old new offered =
       subst (λ gain. IfSome gain (IsGainListed new.cells e.label)) (sym gain_told.is)
-      (gain-listed s ready n room at e act stays gain_told.gain gain_told.is old new label sum_told (offered_told old new offered))
+      (gain-listed s ready n room at e held act stays gain_told.gain gain_told.is old new label sum_told (offered_told old new offered))
 
   -- or it was refused
   pub step-crowd : (old : Sheet) → IsRefused room old st → ShowsCrowd s n.0 room at e old
   step-crowd old refused =
-      crowd-gained s ready n room at e act stays gain_told.gain gain_told.is old (subst (IsRefused room old) (sym gain_told.state) refused)
+      crowd-gained s ready n room at e held act stays gain_told.gain gain_told.is old (subst (IsRefused room old) (sym gain_told.state) refused)
 
--- what is not visible in plaintext is not encrypted, and what is not encrypted is not decrypted
-enc-none : (s : Setting) (n : ℕ) (st : State) (a : AttrId) → has (without (known_at s n).visible.0 st.view.enc.0) a.0 ≡ false
-    → enc_gain s n a st ≡ None
-enc-none s n st a hidden =
-    ap (λ b. held s st.holder (if b then Some (after_enc a.0 (shown s n st)) else None)
-    (step_work s.basis (step.Enc a) st.holder.0 n st.view)) hidden
-
-dec-none : (s : Setting) (n : ℕ) (st : State) (a : AttrId) → has st.view.enc.0 a.0 ≡ false → dec_gain s n a st ≡ None
-dec-none s n st a plain =
-    ap (λ b. held s st.holder (if b then Some (after_dec a.0 (shown s n st)) else None)
-    (step_work s.basis (step.Dec a) st.holder.0 n st.view)) plain
-
--- a step that gains nothing lists all that it gains
 nothing-listed : (gain : Option Gain) (cells : List (State × Cell)) (label : ℕ) → gain ≡ None → IfSome gain (IsGainListed cells label)
 nothing-listed gain cells label none = subst (λ gain. IfSome gain (IsGainListed cells label)) (sym none) tt
-
--- an attribute that is not visible is neither encrypted nor decrypted
-pub crypts-none : (s : Setting) (n : ℕ) (cells : List (State × Cell)) (e : Settled) (a : AttrId) → IsStateAt s n e.state
-    → has (known_at s n).visible.0 a.0 ≡ false → AreCryptsListed s n a cells e
-crypts-none s n cells e a known hidden = record {
-  enc = nothing-listed (enc_gain s n a e.state) cells e.label (enc-none s n e.state a plain);
-  dec = nothing-listed (dec_gain s n a e.state) cells e.label (dec-none s n e.state a (sealed (has e.state.view.enc.0 a.0) refl));
-}
-  where
-    plain : has (without (known_at s n).visible.0 e.state.view.enc.0) a.0 ≡ false
-    plain = has-without (known_at s n).visible.0 e.state.view.enc.0 a.0 ∙ ap (λ b. b && not (has e.state.view.enc.0 a.0)) hidden
-
-    sealed : (b : Bool) → has e.state.view.enc.0 a.0 ≡ b → has e.state.view.enc.0 a.0 ≡ false
-    sealed true is = absurd (true≢false (sym (known.view.visible.member a.0 is) ∙ hidden))
-    sealed false is = is
-
--- the one of the two that was tried is all that there is
-pub crypt-stays : (a : AttrId) (b : Bool) → Stays (if b then step.Dec a else step.Enc a)
-crypt-stays a true = tt
-crypt-stays a false = tt
-
-pub crypts-tried : (s : Setting) (n : NodeId) (cells : List (State × Cell)) (e : Settled) (a : AttrId) (b : Bool)
-    → has e.state.view.enc.0 a.0 ≡ b
-    → IfSome (step_gain s n (if b then step.Dec a else step.Enc a) e.state None) (IsGainListed cells e.label)
-    → AreCryptsListed s n.0 a cells e
-crypts-tried s n cells e a true sealed listed = record {
-  enc = nothing-listed (enc_gain s n.0 a e.state) cells e.label (enc-none s n.0 e.state a hidden);
-  dec = listed;
-}
-  where
-    by_test : (b : Bool) → b && false ≡ false
-    by_test true = refl
-    by_test false = refl
-
-    hidden : has (without (known_at s n.0).visible.0 e.state.view.enc.0) a.0 ≡ false
-    hidden =
-        has-without (known_at s n.0).visible.0 e.state.view.enc.0 a.0
-        ∙ ap (λ b. has (known_at s n.0).visible.0 a.0 && not b) sealed ∙ by_test (has (known_at s n.0).visible.0 a.0)
-crypts-tried s n cells e a false plain listed = record {
-  enc = listed;
-  dec = nothing-listed (dec_gain s n.0 a e.state) cells e.label (dec-none s n.0 e.state a plain);
-}
 
 -- a send to no subject of the policy gains nothing
 pub sends-none : (s : Setting) (n : ℕ) (st : State) (to : SubjectId) (cells : List (State × Cell)) (label : ℕ)
@@ -157,46 +104,39 @@ sends-none s n st to cells label beyond =
     nothing-listed (send_gain s n to st) cells label
     (ap (λ b. if b && not (to.0 == st.holder.0) then held s to (Some (shown s n st)) (step_work s.basis (step.Send to) st.holder.0 n st.view) else None) none)
 
--- what encryptions and decryptions gain is listed later
-pub crypts-later : (s : Setting) (n room at : ℕ) (e : Settled) (old new : Sheet) → Continues s n room at e old new → (a : AttrId)
-    → AreCryptsListed s n a old.cells e → AreCryptsListed s n a new.cells e
-crypts-later s n room at e old new later a listed = record {
-  enc = gain-later s n room at e old new later e.label (enc_gain s n a e.state) listed.enc;
-  dec = gain-later s n room at e old new later e.label (dec_gain s n a e.state) listed.dec;
-}
+-- the states across the attributes that are tried and not left are listed, and that across one more
+pub crossed-later : (s : Setting) (n room at : ℕ) (e : Settled) (old new : Sheet) → Continues s n room at e old new
+    → AreTried s n old.cells e → AreTried s n new.cells e
+crossed-later s n room at e old new later crossed = λ a crosses tried.
+    later.lower (across a e.state) (crossed_label s n a e) (crossed a crosses tried)
 
--- each visible attribute that is not left was tried, and one more that was
-pub attributes-more : (s : Setting) (n room at : ℕ) (e : Settled) (old new : Sheet) (visible : ℕ) (left next : ℕ) (tried : AttrId)
-    → next ≡ without left (2 ^ tried.0) → Continues s n room at e old new
-    → ((a : AttrId) → has visible a.0 ≡ true → has left a.0 ≡ false → AreCryptsListed s n a old.cells e)
-    → AreCryptsListed s n tried new.cells e
-    → (a : AttrId) → has visible a.0 ≡ true → has next a.0 ≡ false → AreCryptsListed s n a new.cells e
-attributes-more s n room at e old new visible left next tried less later before here a there gone = by_test (has left a.0) refl
+pub attributes-more : (s : Setting) (n room at : ℕ) (e : Settled) (old new : Sheet) (left next a : ℕ) → next ≡ without left (2 ^ a)
+    → Continues s n room at e old new → AreTriedBut s n old.cells e left
+    → IsListedOn new.cells (across a e.state) (crossed_label s n a e) → AreTriedBut s n new.cells e next
+attributes-more s n room at e old new left next a less later before here b crosses tried gone = by_test (has left b) refl
   where
     both : (y : Bool) → (true && not y) ≡ false → y ≡ true
     both true is = refl
     both false is = absurd (true≢false is)
 
-    by_test : (b : Bool) → has left a.0 ≡ b → AreCryptsListed s n a new.cells e
-    by_test false is = crypts-later s n room at e old new later a (before a there is)
+    by_test : (c : Bool) → has left b ≡ c → IsListedOn new.cells (across b e.state) (crossed_label s n b e)
+    by_test false is = later.lower (across b e.state) (crossed_label s n b e) (before b crosses tried is)
     by_test true is =
-        let split : (has left a.0 && not (has (2 ^ tried.0) a.0)) ≡ false =
-        sym (has-without left (2 ^ tried.0) a.0) ∙ ap (λ set. has set a.0) (sym less) ∙ gone in
-        let single : has (2 ^ tried.0) a.0 ≡ true =
-        both (has (2 ^ tried.0) a.0) (ap (λ b. b && not (has (2 ^ tried.0) a.0)) (sym is) ∙ split) in
-        let same : tried.0 ≡ a.0 = eqb-true tried.0 a.0 (sym (has-single tried.0 a.0) ∙ single) in
-        subst (λ k. AreCryptsListed s n (record { 0 = k }) new.cells e) same here
+        let split : (has left b && not (has (2 ^ a) b)) ≡ false =
+        sym (has-without left (2 ^ a) b) ∙ ap (λ set. has set b) (sym less) ∙ gone in
+        let single : has (2 ^ a) b ≡ true = both (has (2 ^ a) b) (ap (λ c. c && not (has (2 ^ a) b)) (sym is) ∙ split) in
+        let same : a ≡ b = eqb-true a b (sym (has-single a b) ∙ single) in
+        subst (λ k. IsListedOn new.cells (across k e.state) (crossed_label s n k e)) same here
 
--- and so all were, where none is left
-pub attributes-all : (s : Setting) (n : ℕ) (e : Settled) (sheet : Sheet) (visible left : ℕ) → left ≡ 0
-    → visible ≡ (known_at s n).visible.0 → IsStateAt s n e.state
-    → ((a : AttrId) → has visible a.0 ≡ true → has left a.0 ≡ false → AreCryptsListed s n a sheet.cells e)
-    → (a : AttrId) → AreCryptsListed s n a sheet.cells e
-attributes-all s n e sheet visible left end same known before a = by_test (has visible a.0) refl
-  where
-    by_test : (b : Bool) → has visible a.0 ≡ b → AreCryptsListed s n a sheet.cells e
-    by_test true is = before a is (ap (λ set. has set a.0) end ∙ has-empty a.0)
-    by_test false is = crypts-none s n sheet.cells e a known (subst (λ set. has set a.0 ≡ false) same is)
+-- what is left its holder sees plain
+pub attributes-within : (left next all others : ℕ) → next ≡ without left others → IsWithin left all → IsWithin next all
+attributes-within left next all others less within =
+    subst (λ set. IsWithin set all) (sym less) (record { member = λ i there. within.member i ((without-within left others).member i there) })
+
+-- and at last none is
+pub attributes-all : (s : Setting) (n : ℕ) (e : Settled) (cells : List (State × Cell)) (left : ℕ) → left ≡ 0 → AreTriedBut s n cells e left
+    → AreTried s n cells e
+attributes-all s n e cells left end before a crosses tried = before a crosses tried (ap (λ set. has set a) end ∙ has-empty a)
 
 -- each subject below one more was tried
 pub subjects-more : (s : Setting) (n room at : ℕ) (e : Settled) (old new : Sheet) (i : ℕ) → Continues s n room at e old new
@@ -220,11 +160,8 @@ subjects-all s n e sheet i end before to = by_order (below-or-above to.0 i)
     by_order (inr beyond) = sends-none s n e.state to sheet.cells e.label (omega arith)
 
 -- all encryptions and decryptions were tried, and then all sends
-pub steps-closed : (s : Setting) (n room at : ℕ) (e : Settled) (old new : Sheet) → ((a : AttrId) → AreCryptsListed s n a old.cells e)
+pub steps-closed : (s : Setting) (n room at : ℕ) (e : Settled) (old new : Sheet) → AreTried s n old.cells e
     → Continues s n room at e old new → ((to : SubjectId) → IfSome (send_gain s n to e.state) (IsGainListed new.cells e.label))
-    → IsClosedOn s n new.cells e.state e.label
-steps-closed s n room at e old new crypts later sends = record {
-  enc = λ a. (crypts-later s n room at e old new later a (crypts a)).enc;
-  dec = λ a. (crypts-later s n room at e old new later a (crypts a)).dec;
-  send = sends;
-}
+    → IsClosedOn s n new.cells e
+steps-closed s n room at e old new crossed later sends =
+    record { crossed = crossed-later s n room at e old new later crossed; send = sends }

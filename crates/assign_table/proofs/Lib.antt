@@ -15,8 +15,9 @@ pub mod StateLaws
 pub mod ArenaLaws
 pub mod SheetLaws
 pub mod OrderLaws
-pub mod SettleLaws
 pub mod CrossLaws
+pub mod NearLaws
+pub mod SettleLaws
 pub mod GainLaws
 pub mod TurnLaws
 pub mod DoneLaws

@@ -13,7 +13,7 @@ use Rattle.cost_model.specs.Costs.{cut}
 use Rattle.extended_plan.proofs.EntryLaws.{same_state, state_eq-itself}
 use Rattle.extended_plan.specs.declared.state.State.{State}
 use Rattle.extended_plan.specs.Gains.{Gain, step_gain}
-use Rattle.extended_plan.specs.Job.{IsStateAt}
+use Rattle.extended_plan.specs.Job.{IsHeldAt}
 use Rattle.extended_plan.specs.Ready.{IsReady}
 use Rattle.extended_plan.specs.Setting.{Setting}
 use Rattle.extended_plan.specs.States.{IsReached, state_eq}
@@ -24,7 +24,9 @@ use Rattle.assign_table.specs.declared.way.Way.TheVariants as way
 use Rattle.assign_table.specs.inside.Cells.{IsListedOn, cell_of}
 use Rattle.assign_table.specs.inside.Settling.{AreAttained, Continues, IsCrowded, IsGainListed, IsGathered, IsLast, ShowsCrowd, Stays}
 use Rattle.assign_table.specs.inside.Sheet.{IsBlank, IsOffered, IsRefused, Sheet, is_lower}
+use Rattle.assign_table.specs.inside.Crossing.{IsMet}
 use Rattle.assign_table.specs.inside.Ways.{IsAttained}
+use Rattle.assign_table.proofs.CrossLaws.{step-traced}
 use Rattle.assign_table.proofs.OrderLaws.{offered-listed, offered-lower, ordered-blank, ordered-offered, written-cell, written-other}
 use Rattle.assign_table.proofs.SheetLaws.{cell_with}
 use Rattle.assign_table.proofs.WayLaws.{dec_attained, enc_attained, send_attained}
@@ -161,31 +163,36 @@ crowd-refused s n room sheet st refused distinct here each =
           (All-from_recursion (IsReached s n) (keys_of sheet.cells) (cells-reached s n sheet.cells distinct each));
     }
 
-module _ (s : Setting) (ready : IsReady s) (n : NodeId) (room at : ℕ) (e : Settled) (last_step : Step) (stays : Stays last_step) (gain : Gain)
-    (gains : step_gain s n last_step e.state None ≡ Some gain) where
+module _ (s : Setting) (ready : IsReady s) (n : NodeId) (room at : ℕ) (e : Settled) (held : IsHeldAt s n.0 e.state) (last_step : Step)
+    (stays : Stays last_step) (gain : Gain) (gains : step_gain s n last_step e.state None ≡ Some gain) where
   gained : (base from : ℕ) (arena : List Settled) (sheet : Sheet) → IsLast arena at e → from ≤ at → AreAttained s n.0 base from arena sheet
-      → IsAttained s arena n.0 base (length arena + 1) gain.state (cut (e.label + gain.cost)) (way.One last_step at)
-  gained base from arena sheet last after attained =
-      step-attained s ready arena n base at e last_step gain stays last.there (attained.block at e after last.there) gains
+      → IsMet s arena n.0 base from (length arena) gain.state (cut (e.label + gain.cost)) (way.One last_step at)
+  gained base from arena sheet last after attained = record {
+    attained =
+        step-attained s ready arena n base at e last_step gain stays last.there (attained.block at e after last.there).attained gains;
+    traced =
+        let high : length arena ≡ at + 1 = last.last in
+        step-traced s arena n from at e last_step gain stays held last.there (record { low = after; high = omega arith }) gains;
+  }
 
   -- a gain of the last settled state was offered
   pub continues-offered : (old new : Sheet) (label : ℕ) → label ≡ cut (e.label + gain.cost) → e.label ≤ label
-      → IsOffered old gain.state label (way.One last_step at) new → IsStateAt s n.0 gain.state
+      → IsOffered old gain.state label (way.One last_step at) new → IsHeldAt s n.0 gain.state
       → (length old.cells ≤ room → length new.cells ≤ room) → Continues s n.0 room at e old new
   continues-offered old new label sum high offered known within = record {
     ordered = λ from arena ordered.
         ordered-offered from arena old new e.label ordered gain.state label (way.One last_step at) offered high;
     attained = λ base from arena last after attained.
         record {
-          cells = cells-offered (λ (st : State) (cell : Cell). IsAttained s arena n.0 base (length arena + 1) st cell.label cell.way) old new
+          cells = cells-offered (λ (st : State) (cell : Cell). IsMet s arena n.0 base from (length arena) st cell.label cell.way) old new
               gain.state label (way.One last_step at) offered
-              (subst (λ l. IsAttained s arena n.0 base (length arena + 1) gain.state l (way.One last_step at)) (sym sum)
+              (subst (λ l. IsMet s arena n.0 base from (length arena) gain.state l (way.One last_step at)) (sym sum)
               (gained base from arena old last after attained))
               attained.cells;
           block = attained.block;
           distinct = distinct-offered old new gain.state label (way.One last_step at) offered attained.distinct;
         };
-    known = cells-offered (λ (st : State) (cell : Cell). IsStateAt s n.0 st) old new gain.state label (way.One last_step at) offered known;
+    known = cells-offered (λ (st : State) (cell : Cell). IsHeldAt s n.0 st) old new gain.state label (way.One last_step at) offered known;
     lower = offered-lower old new gain.state label (way.One last_step at) offered;
     within = within;
   }
@@ -202,9 +209,9 @@ module _ (s : Setting) (ready : IsReady s) (n : NodeId) (room at : ℕ) (e : Set
       λ base from arena last after attained.
       crowd-refused s n.0 room old gain.state refused attained.distinct
       (attained-reached s arena n.0 base (length arena + 1) gain.state (cut (e.label + gain.cost)) (way.One last_step at)
-      (gained base from arena old last after attained))
+      (gained base from arena old last after attained).attained)
       (λ other cell found.
-      attained-reached s arena n.0 base (length arena + 1) other cell.label cell.way (attained.cells other cell found))
+      attained-reached s arena n.0 base (length arena + 1) other cell.label cell.way (attained.cells other cell found).attained)
 
 distinct-none : IsDistinct state_eq []
 unfolding IsDistinct
@@ -229,26 +236,26 @@ gathered-blank s n base room arena sheet blank = record {
 
 -- then a state arrives that is attained
 pub gathered-offered : (s : Setting) (n base room : ℕ) (arena : List Settled) (old new : Sheet) (st : State) (label : ℕ) (way : Way)
-    → IsGathered s n base room arena old → IsOffered old st label way new → IsAttained s arena n base (length arena + 1) st label way
-    → IsStateAt s n st → (length old.cells ≤ room → length new.cells ≤ room) → IsGathered s n base room arena new
+    → IsGathered s n base room arena old → IsOffered old st label way new → IsMet s arena n base (length arena) (length arena) st label way
+    → IsHeldAt s n st → (length old.cells ≤ room → length new.cells ≤ room) → IsGathered s n base room arena new
 gathered-offered s n base room arena old new st label way gathered offered here known within = record {
   ordered = ordered-offered (length arena) arena old new 0 gathered.ordered st label way offered (omega arith);
   attained = record {
-    cells = cells-offered (λ (other : State) (cell : Cell). IsAttained s arena n base (length arena + 1) other cell.label cell.way) old new
+    cells = cells-offered (λ (other : State) (cell : Cell). IsMet s arena n base (length arena) (length arena) other cell.label cell.way) old new
         st label way offered here gathered.attained.cells;
     block = gathered.attained.block;
     distinct = distinct-offered old new st label way offered gathered.attained.distinct;
   };
-  known = cells-offered (λ (other : State) (cell : Cell). IsStateAt s n other) old new st label way offered known gathered.known;
+  known = cells-offered (λ (other : State) (cell : Cell). IsHeldAt s n other) old new st label way offered known gathered.known;
   within = within gathered.within;
 }
 
 -- or is refused, since too many are reached
 pub gathered-refused : (s : Setting) (n base room : ℕ) (arena : List Settled) (sheet : Sheet) (st : State) (label : ℕ) (way : Way)
-    → IsGathered s n base room arena sheet → IsRefused room sheet st → IsAttained s arena n base (length arena + 1) st label way
+    → IsGathered s n base room arena sheet → IsRefused room sheet st → IsMet s arena n base (length arena) (length arena) st label way
     → IsCrowded s n room
 gathered-refused s n base room arena sheet st label way gathered refused here =
     crowd-refused s n room sheet st refused gathered.attained.distinct
-    (attained-reached s arena n base (length arena + 1) st label way here)
+    (attained-reached s arena n base (length arena + 1) st label way here.attained)
     (λ other cell found.
-    attained-reached s arena n base (length arena + 1) other cell.label cell.way (gathered.attained.cells other cell found))
+    attained-reached s arena n base (length arena + 1) other cell.label cell.way (gathered.attained.cells other cell found).attained)

@@ -1,5 +1,5 @@
 -- What a turn keeps, how many turns there are, and what stands in the arena when nothing waits any more.
-use Rattle.std.proofs.Common.{◌≡◌, ℕ, ◌+◌, ◌-◌, ◌≤◌, ◌<◌, ◌⊎◌, inl, inr, Bool, true, false, List, [], ◌∷◌, ◌++◌, length, drop, get_or, Option, Some, None, slice_get, is_some, refl, sym, ◌∙◌, ap, subst, true≢false, arith, append_assoc, length-append}
+use Rattle.std.proofs.Common.{◌≡◌, ℕ, ◌+◌, ◌-◌, ◌^◌, ◌≤◌, ◌<◌, min, ◌⊎◌, inl, inr, Bool, true, false, List, [], ◌∷◌, ◌++◌, length, drop, get_or, Option, Some, None, slice_get, is_some, refl, sym, ◌∙◌, ap, subst, true≢false, arith, append_assoc, length-append}
 use Rattle.std.specs.Prelude.{IfSome}
 use Rattle.std.specs.List.{IsDistinct}
 use Rattle.std.specs.Map.{keys_of}
@@ -9,46 +9,51 @@ use Rattle.std.proofs.lemmas.Map.Entries.{length-keys_of}
 use Rattle.std.proofs.lemmas.Map.Made.{is_some-lookup, length-le_from_is_member}
 use Rattle.std.proofs.lemmas.Option.{get_or_from_slice_get, slice_get-get_or, slice_get_within}
 use Rattle.std.proofs.lemmas.Map.Keys.{apart_from_distinct}
+use Rattle.mq_base.specs.declared.ids.AttrId.{AttrId}
 use Rattle.cost_model.specs.Costs.{cut}
 use Rattle.extended_plan.proofs.EntryLaws.{same_state}
 use Rattle.extended_plan.specs.declared.state.State.{State}
-use Rattle.extended_plan.specs.Gains.{Gain, dec_gain, enc_gain, send_gain}
+use Rattle.extended_plan.specs.Gains.{Gain, across, dec_gain, enc_gain, send_gain}
+use Rattle.extended_plan.specs.Job.{IsHeldAt}
 use Rattle.extended_plan.specs.Setting.{Setting}
-use Rattle.extended_plan.specs.States.{state_eq}
+use Rattle.extended_plan.specs.States.{cost, state_eq}
 use Rattle.assign_table.specs.declared.cell.Cell.{Cell}
 use Rattle.assign_table.specs.declared.way.Settled.{Settled}
-use Rattle.assign_table.specs.inside.Blocks.{AreApart, IsFrom, IsSettled}
 use Rattle.assign_table.specs.inside.Cells.{IsListedOn, cell_of}
+use Rattle.assign_table.specs.inside.Blocks.{AreApart, IsFrom, IsSettled}
 use Rattle.assign_table.specs.inside.Order.{IsAtRest, IsOrdered, IsSettledFrom, states_of}
 use Rattle.assign_table.specs.inside.Settling.{AreAttained, AreKnown, Continues, IsClosedOn, IsDone, IsGainIn, IsGainListed, IsLast, IsTurn, IsTurned, IsUnderway, ShowsCrowd, ShowsCrowdFrom, ShowsCrowdOver}
 use Rattle.assign_table.specs.inside.Sheet.{IsDrained, IsTaken, Sheet}
-use Rattle.assign_table.specs.inside.Ways.{IsAttained, settled_at}
+use Rattle.assign_table.specs.inside.Crossing.{IsMet, crossed_label}
+use Rattle.assign_table.specs.inside.Ways.{settled_at}
 use Rattle.assign_table.proofs.ArenaLaws.{IsNewAt, block-none, push-cases, push-last}
 use Rattle.assign_table.proofs.OrderLaws.{ordered-taken}
 use Rattle.assign_table.proofs.SheetLaws.{cell_with, settled_with}
 use Rattle.assign_table.proofs.StateLaws.{state_eq-equivalence}
-use Rattle.assign_table.proofs.WayLaws.{attained_grown}
+use Rattle.assign_table.proofs.CrossLaws.{IsAcross, crossing-in, dec-across, each_crossed, enc-across}
+use Rattle.assign_table.proofs.WayLaws.{met_grown}
 
 -- what was attained is, when the least that waits is settled
 pub attained-taken : (s : Setting) (n base from : ℕ) (arena : List Settled) (old : Sheet) (e : Settled) (new : Sheet) → IsTaken old e new
     → AreAttained s n base from arena old → AreAttained s n base from (arena ++ e ∷ []) new
 attained-taken s n base from arena old e new taken attained = record {
   cells = λ st cell found.
-      attained_grown s arena (e ∷ []) n base (length arena + 1) (length (arena ++ e ∷ []) + 1) st cell.label cell.way
-      (let longer : length (arena ++ e ∷ []) ≡ length arena + 1 = length_push arena e in omega arith)
+      met_grown s arena (e ∷ []) n base from (length arena) (length (arena ++ e ∷ [])) st cell.label cell.way
+      (let longer : length (arena ++ e ∷ []) ≡ length arena + 1 = length_push arena e in omega arith) (omega arith)
       (attained.cells st cell (sym (ap (λ cells. cell_of cells st) taken.cells) ∙ found));
   block = λ place f after there. block place f after (push-cases arena e place f there);
   distinct = subst (λ cells. IsDistinct state_eq (keys_of cells)) (sym taken.cells) attained.distinct;
 }
   where
     block : (place : ℕ) (f : Settled) → from ≤ place → (slice_get arena place ≡ Some f) ⊎ IsNewAt arena e place f
-        → IsAttained s (arena ++ e ∷ []) n base (place + 1) f.state f.label f.way
+        → IsMet s (arena ++ e ∷ []) n base from place f.state f.label f.way
     block place f after (inl there) =
-        attained_grown s arena (e ∷ []) n base (place + 1) (place + 1) f.state f.label f.way (omega arith) (attained.block place f after there)
+        let within : place < length arena = slice_get_within arena place f there in
+        met_grown s arena (e ∷ []) n base from place place f.state f.label f.way (omega arith) (omega arith) (attained.block place f after there)
     block place f after (inr new_one) =
         let last : place ≡ length arena = new_one.last in
-        subst (λ (g : Settled). IsAttained s (arena ++ e ∷ []) n base (place + 1) g.state g.label g.way) (sym new_one.new)
-        (attained_grown s arena (e ∷ []) n base (length arena + 1) (place + 1) e.state e.label e.way (omega arith)
+        subst (λ (g : Settled). IsMet s (arena ++ e ∷ []) n base from place g.state g.label g.way) (sym new_one.new)
+        (met_grown s arena (e ∷ []) n base from (length arena) place e.state e.label e.way (omega arith) (omega arith)
         (attained.cells e.state (cell_with e.label e.way) taken.listed))
 
 -- what is listed is, when the least that waits is taken
@@ -65,7 +70,7 @@ pushed-last arena e at same = record {
 
 -- a turn: the least that waits is taken and pushed, and all that it gains is offered
 pub turned : (s : Setting) (n room at : ℕ) (arena longer : List Settled) (old mid new : Sheet) (e : Settled) → at ≡ length arena
-    → IsTaken old e mid → longer ≡ arena ++ e ∷ [] → Continues s n room at e mid new → IsClosedOn s n new.cells e.state e.label
+    → IsTaken old e mid → longer ≡ arena ++ e ∷ [] → Continues s n room at e mid new → IsClosedOn s n new.cells e
     → IsTurned s n room arena old longer new
 turned s n room at arena longer old mid new e same taken pushed continues closed = record {
   settled = e;
@@ -92,18 +97,17 @@ crowd-turned s n room at arena old mid e same taken shows =
     (attained-taken s n base from arena old e mid taken attained)
 
 -- what is closed is, as long as what is listed is
-closed-later : (s : Setting) (n : ℕ) (old new : List (State × Cell)) (st : State) (label : ℕ)
+closed-later : (s : Setting) (n : ℕ) (old new : List (State × Cell)) (e : Settled)
     → ((other : State) (most : ℕ) → IsListedOn old other most → IsListedOn new other most)
-    → IsClosedOn s n old st label → IsClosedOn s n new st label
-closed-later s n old new st label lower closed = record {
-  enc = λ a. later (enc_gain s n a st) (closed.enc a);
-  dec = λ a. later (dec_gain s n a st) (closed.dec a);
-  send = λ to. later (send_gain s n to st) (closed.send to);
+    → IsClosedOn s n old e → IsClosedOn s n new e
+closed-later s n old new e lower closed = record {
+  crossed = λ a crosses tried. lower (across a e.state) (crossed_label s n a e) (closed.crossed a crosses tried);
+  send = λ to. later (send_gain s n to e.state) (closed.send to);
 }
   where
-    later : (gain : Option Gain) → IfSome gain (IsGainListed old label) → IfSome gain (IsGainListed new label)
+    later : (gain : Option Gain) → IfSome gain (IsGainListed old e.label) → IfSome gain (IsGainListed new e.label)
     later None listed = tt
-    later (Some gain) listed = lower gain.state (cut (label + gain.cost)) listed
+    later (Some gain) listed = lower gain.state (cut (e.label + gain.cost)) listed
 
 -- at most as many states are settled as there are cells
 pub block-few : (from : ℕ) (arena : List Settled) (sheet : Sheet) (front : ℕ) → IsOrdered from arena sheet front
@@ -171,10 +175,9 @@ underway-more s n room before start arena old longer new underway turn = record 
 }
   where
     closed : (place : ℕ) (e : Settled) → length before ≤ place → (slice_get arena place ≡ Some e) ⊎ IsNewAt arena turn.settled place e
-        → IsClosedOn s n new.cells e.state e.label
-    closed place e after (inl there) =
-        closed-later s n old.cells new.cells e.state e.label turn.lower (underway.closed place e after there)
-    closed place e after (inr last) = subst (λ (f : Settled). IsClosedOn s n new.cells f.state f.label) (sym last.new) turn.closed
+        → IsClosedOn s n new.cells e
+    closed place e after (inl there) = closed-later s n old.cells new.cells e turn.lower (underway.closed place e after there)
+    closed place e after (inr last) = subst (IsClosedOn s n new.cells) (sym last.new) turn.closed
 
 -- no more states are settled than there is room for
 pub underway-few : (s : Setting) (n room : ℕ) (before : List Settled) (start : Sheet) (arena : List Settled) (sheet : Sheet)
@@ -261,18 +264,54 @@ done-drained s n room before start arena old new underway drained = record {
       omega arith;
   apart = block-apart (length before) arena underway.ordered.differ;
   attained = λ base attained w inside.
-      (underway.attained base attained).block w (settled_at arena w) inside.low (at-place arena w inside.high);
+      (met base attained w inside).attained;
   arrived = λ st most listed. all st most (underway.lower st most listed);
-  enc = λ w a inside. gain-inside (enc_gain s n a (settled_at arena w).state) (settled_at arena w).label ((closed w inside).enc a);
-  dec = λ w a inside. gain-inside (dec_gain s n a (settled_at arena w).state) (settled_at arena w).label ((closed w inside).dec a);
+  enc = λ base attained w a inside.
+      each-gain (enc_gain s n a (settled_at arena w).state) (settled_at arena w).label
+      (λ gain gains. in_block base attained w a gain inside (enc-across s n a (settled_at arena w).state (held w inside) gain gains));
+  dec = λ base attained w a inside.
+      each-gain (dec_gain s n a (settled_at arena w).state) (settled_at arena w).label
+      (λ gain gains. in_block base attained w a gain inside (dec-across s n a (settled_at arena w).state (held w inside) gain gains));
   send = λ w to inside. gain-inside (send_gain s n to (settled_at arena w).state) (settled_at arena w).label ((closed w inside).send to);
 }
   where
     all : (st : State) (most : ℕ) → IsListedOn old.cells st most → IsSettled arena (length before) (length arena) st most
     all = listed-settled (length before) arena old new underway.front underway.ordered drained
 
-    closed : (w : ℕ) → IsFrom (length before) (length arena) w → IsClosedOn s n old.cells (settled_at arena w).state (settled_at arena w).label
+    closed : (w : ℕ) → IsFrom (length before) (length arena) w → IsClosedOn s n old.cells (settled_at arena w)
     closed w inside = underway.closed w (settled_at arena w) inside.low (at-place arena w inside.high)
+
+    met : (base : ℕ) → AreAttained s n base (length before) before start → (w : ℕ) → IsFrom (length before) (length arena) w
+        → IsMet s arena n base (length before) w (settled_at arena w).state (settled_at arena w).label (settled_at arena w).way
+    met base attained w inside = (underway.attained base attained).block w (settled_at arena w) inside.low (at-place arena w inside.high)
+
+    held : (w : ℕ) → IsFrom (length before) (length arena) w → IsHeldAt s n (settled_at arena w).state
+    held w inside =
+        underway.known (settled_at arena w).state (cell_with (settled_at arena w).label (settled_at arena w).way)
+        (underway.ordered.rests w (settled_at arena w) inside.low (at-place arena w inside.high)).listed
+
+    cut-fits : (n : ℕ) → cut n ≤ 2 ^ 128 - 1
+    cut-fits n = fits n (2 ^ 128 - 1)
+      where
+        fits : (n most : ℕ) → min n most ≤ most
+        fits n most = omega arith
+
+    in_block : (base : ℕ) → AreAttained s n base (length before) before start → (w : ℕ) (a : AttrId) (gain : Gain)
+        → IsFrom (length before) (length arena) w → IsAcross s n a.0 (settled_at arena w).state gain
+        → IsGainIn arena (length before) (length arena) (settled_at arena w).label gain
+    in_block base attained w a gain inside is =
+        crossing-in s n (length before) (length arena) arena w a.0 gain is
+        (each_crossed s n (length before) arena
+        (λ v b from crosses tried. all _ _ ((closed v from).crossed b crosses tried))
+        (λ v from. (met base attained v from).traced)
+        (λ v from. let label = (met base attained v from).attained.costs in rw label (cut-fits (cost s (met base attained v from).attained.term)))
+        w a.0 inside is.crosses)
+
+    each-gain : (found : Option Gain) (label : ℕ)
+        → ((gain : Gain) → found ≡ Some gain → IsGainIn arena (length before) (length arena) label gain)
+        → IfSome found (IsGainIn arena (length before) (length arena) label)
+    each-gain None label each = tt
+    each-gain (Some gain) label each = each gain refl
 
     gain-inside : (gain : Option Gain) (label : ℕ) → IfSome gain (IsGainListed old.cells label)
         → IfSome gain (IsGainIn arena (length before) (length arena) label)

@@ -1,9 +1,10 @@
 -- What ways tell: they lead to the same terms in a longer arena, a step leads on from the way of its operand, and the steps of a
 -- term are told from the end back.
-use Rattle.std.proofs.Common.{◌≡◌, ℕ, ◌+◌, ◌-◌, ◌^◌, ◌≤◌, ◌<◌, List, [], ◌∷◌, ◌++◌, length, Some, refl, sym, ◌∙◌, ap, arith, min}
-use Rattle.std.specs.Prelude.{option_map, slice_get}
-use Rattle.std.proofs.lemmas.List.{length-append}
+use Rattle.std.proofs.Common.{◌≡◌, ℕ, ◌+◌, ◌-◌, ◌^◌, ◌≤◌, ◌<◌, true, List, [], ◌∷◌, ◌++◌, length, Option, Some, None, refl, sym, ◌∙◌, ap, subst, arith, min}
+use Rattle.std.specs.Prelude.{IfSome, option_map, slice_get}
+use Rattle.std.proofs.lemmas.List.{get_or_append_left, length-append}
 use Rattle.std.proofs.lemmas.Option.{slice_get_within}
+use Rattle.base_laws.specs.Sets.{has}
 use Rattle.base_laws.proofs.PlaceLaws.{slice_get-append_left}
 use Rattle.mq_base.specs.declared.ids.AttrId.{AttrId}
 use Rattle.mq_base.specs.declared.ids.NodeId.{NodeId}
@@ -14,7 +15,7 @@ use Rattle.mq_base.specs.declared.plan.Step.TheVariants as step
 use Rattle.cost_model.specs.Costs.{cut}
 use Rattle.plan_algebra.specs.declared.kind.Kind.TheVariants as kind
 use Rattle.extended_plan.specs.declared.state.State.{State}
-use Rattle.extended_plan.specs.Gains.{Gain, dec_gain, enc_gain, leaf_gain, one_gain, send_gain, two_gain}
+use Rattle.extended_plan.specs.Gains.{Gain, across, crossable, dec_gain, enc_gain, leaf_gain, one_gain, send_gain, two_gain}
 use Rattle.extended_plan.specs.Laws.{IsGained}
 use Rattle.extended_plan.specs.Ready.{IsReady}
 use Rattle.extended_plan.specs.Setting.{Setting, kind_at, leaf_of}
@@ -25,7 +26,8 @@ use Rattle.extended_plan.proofs.TermLaws.{gains_terms}
 use Rattle.assign_table.specs.declared.way.Settled.{Settled}
 use Rattle.assign_table.specs.declared.way.Way.{Way}
 use Rattle.assign_table.specs.declared.way.Way.TheVariants as way
-use Rattle.assign_table.specs.inside.Ways.{IsAttained, Leads, to_leaf, to_enc, to_dec, to_send, to_one, to_two}
+use Rattle.assign_table.specs.inside.Crossing.{IsCrossed, IsMet, crossed_label, crossing}
+use Rattle.assign_table.specs.inside.Ways.{IsAttained, Leads, settled_at, to_leaf, to_enc, to_dec, to_send, to_one, to_two}
 
 -- what stands at a place of the arena stands there when it has grown
 kept_at : (arena more : List Settled) (w : ℕ) (e : Settled) → slice_get arena w ≡ Some e → slice_get (arena ++ more) w ≡ Some e
@@ -53,6 +55,33 @@ attained_grown s arena more n base top later st label way less is = record {
   costs = is.costs;
   short = omega (arith, is.short);
 }
+
+-- and so does what is traced
+trace_grown : (s : Setting) (arena more : List Settled) (n from top later a place : ℕ) (st : State) (label : ℕ) → top ≤ later → top ≤ length arena
+    → IsCrossed s arena n from top a place st label → IsCrossed s (arena ++ more) n from later a place st label
+trace_grown s arena more n from top later a place st label less within is =
+    let high : place < top = is.inside.high in
+    let same : settled_at arena place ≡ settled_at (arena ++ more) place =
+    sym (get_or_append_left arena more (settled_at [] 0) place (omega arith)) in
+    record {
+      inside = record { low = is.inside.low; high = omega arith };
+      crosses = subst (λ (f : Settled). has (crossable s n f.state.holder) a ≡ true) same is.crosses;
+      state = subst (λ (f : Settled). st ≡ across a f.state) same is.state;
+      costs = subst (λ (f : Settled). label ≡ crossed_label s n a f) same is.costs;
+    }
+
+pub met_grown : (s : Setting) (arena more : List Settled) (n base from place later : ℕ) (st : State) (label : ℕ) (way : Way)
+    → place ≤ later → place ≤ length arena → IsMet s arena n base from place st label way
+    → IsMet s (arena ++ more) n base from later st label way
+met_grown s arena more n base from place later st label way less within is = record {
+  attained = attained_grown s arena more n base (place + 1) (later + 1) st label way (omega (arith, less)) is.attained;
+  traced = by_way (crossing way) is.traced;
+}
+  where
+    by_way : (found : Option (AttrId × ℕ)) → IfSome found (λ c. IsCrossed s arena n from place c.0.0 c.1 st label)
+        → IfSome found (λ c. IsCrossed s (arena ++ more) n from later c.0.0 c.1 st label)
+    by_way None is = tt
+    by_way (Some c) is = trace_grown s arena more n from place later c.0.0 c.1 st label less within is
 
 -- sums of cut numbers, cut
 cut_sum : (label whole work top : ℕ) → label ≡ min whole top → min (label + work) top ≡ min (whole + work) top

@@ -1,11 +1,12 @@
 pub mod Blocks
 pub mod Pairs
-pub mod Cells
-pub mod Crossing
 pub mod Queue
 pub mod Spans
 pub mod Ways
+pub mod Cells
+pub mod Neighbours
 pub mod Sheet
 pub mod Order
+pub mod Crossing
 pub mod Settling
 pub mod Arrivals

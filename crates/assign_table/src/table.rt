@@ -2,7 +2,7 @@ ghost use Rattle.std.specs.Prelude.{◌≤◌, ◌<◌, length};
 ghost use Rattle.std.specs.BinaryHeap.{IsHeap, heap_items};
 ghost use Rattle.std.specs.List.{All};
 ghost use Rattle.std.proofs.Props.{props};
-ghost use Rattle.assign_table.specs.inside.Crossing.{AreAllCrossed};
+ghost use Rattle.assign_table.specs.inside.Neighbours.{AreAllCrossed};
 ghost use Rattle.assign_table.specs.inside.Queue.{place_cmp};
 
 use crate::cell::{Cell, Waiting};
@@ -84,7 +84,7 @@ impl Table {
     ghost use Rattle.extended_plan.specs.States.{state_eq};
     ghost use Rattle.assign_table.specs.declared.table.TableNo.TheVariants.{Full};
     ghost use Rattle.assign_table.specs.inside.Cells.{cell_of, state_at};
-    ghost use Rattle.assign_table.specs.inside.Crossing.{AreCrossed};
+    ghost use Rattle.assign_table.specs.inside.Neighbours.{AreCrossed};
     ghost use Rattle.assign_table.specs.inside.Settling.{IsFront};
     ghost use Rattle.assign_table.specs.inside.Sheet.{IsBlank, IsDrained, IsOffered, IsRefused, IsTaken, IsWritten, fresh_of, sheet_of, waits_at};
 

@@ -29,7 +29,7 @@ abbrev Stands : Setting → ℕ → Option Profile → Type 0
 Stands s n p = option_map (profile_of (known_at s n)) (option_map view_of p) ≡ p
 
 -- what is gained by work to a state
-abbrev worked : Setting → ℕ → ℕ → Option State → Option Gain
+abbrev pub worked : Setting → ℕ → ℕ → Option State → Option Gain
 worked s n work None = None
 worked s n work (Some new) = if may_hold s new.holder (shown s n new) then Some (record { state = new; cost = work }) else None
 
@@ -38,7 +38,7 @@ gained_is : (s : Setting) (n : NodeId) (step : Step) (from : State) (new : Optio
 gained_is s n step from None = refl
 gained_is s n step from (Some new) = refl
 
-held_parts : (s : Setting) (n : ℕ) (holder : SubjectId) (p : Option Profile) (work : ℕ) → Stands s n p
+pub held_parts : (s : Setting) (n : ℕ) (holder : SubjectId) (p : Option Profile) (work : ℕ) → Stands s n p
     → held s holder p work ≡ worked s n work (at_holder holder (option_map view_of p))
 held_parts s n holder None work stands = refl
 held_parts s n holder (Some p) work stands =

@@ -29,7 +29,7 @@ use Rattle.extended_plan.specs.declared.job.Job.{Job}
 use Rattle.extended_plan.specs.declared.state.State.{State}
 use Rattle.extended_plan.proofs.ViewLaws.{fits}
 use Rattle.extended_plan.specs.Gains.{leaf_gain, one_profile, shown, two_profile}
-use Rattle.extended_plan.specs.Job.{AreOperands, IsLeafState, IsOperand, IsStateAt, setting_of}
+use Rattle.extended_plan.specs.Job.{AreOperands, IsHeldAt, IsLeafState, IsOperand, IsStateAt, setting_of}
 use Rattle.extended_plan.specs.Ready.{IfBase, IsLeafOf, IsReady}
 use Rattle.extended_plan.specs.Setting.{Setting, is_base, kind_at, known_at, leaf_of, op_at, store_of}
 use Rattle.extended_plan.specs.States.{state}
@@ -139,6 +139,7 @@ leaf_gained s n t st ready found is =
 
 -- and is a state at its leaf
 pub leaf_within : (s : Setting) (n : ℕ) (t : TableId) (held : Bool) (st : State) → leaf_of s t ≡ Some n → IsStateAt s n st
-    → IfSome (if held then Some st else None) (IsLeafState s t)
-leaf_within s n t true st found at = λ m there. subst (λ k. IsStateAt s k st) (let both : Some n ≡ Some m = sym found ∙ there in cc) at
-leaf_within s n t false st found at = tt
+    → may_hold s st.holder (shown s n st) ≡ held → IfSome (if held then Some st else None) (IsLeafState s t)
+leaf_within s n t true st found at held = λ m there.
+    subst (λ k. IsHeldAt s k st) (let both : Some n ≡ Some m = sym found ∙ there in cc) (record { at = at; held = held })
+leaf_within s n t false st found at held = tt

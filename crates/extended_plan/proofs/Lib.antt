@@ -8,6 +8,7 @@ pub mod LeastLaws
 pub mod SpellLaws
 pub mod ListLaws
 pub mod GainLaws
+pub mod CrossLaws
 pub mod JobLaws
 pub mod ReadyLaws
 pub mod StackLaws

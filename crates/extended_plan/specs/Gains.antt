@@ -1,6 +1,7 @@
 -- One step on states: what a holder has after it, where the step is runnable and the new holder may hold the result, and what it costs.
 -- The state decides, whichever term has it. docs/MODEL.md, "States", tells it in prose.
-use Rattle.std.specs.Prelude.{ℕ, ◌==◌, Option, Some, None, if◌then◌else◌}
+use Rattle.std.specs.Prelude.{ℕ, ◌^◌, ◌==◌, Option, Some, None, bit_and, bit_xor, if◌then◌else◌}
+use Rattle.base_laws.specs.Sets.{has}
 use Rattle.mq_base.specs.declared.ids.AttrId.{AttrId}
 use Rattle.mq_base.specs.declared.ids.SubjectId.{SubjectId}
 use Rattle.mq_base.specs.declared.ids.TableId.{TableId}
@@ -8,9 +9,10 @@ use Rattle.mq_base.specs.declared.ids.NodeId.{NodeId}
 use Rattle.mq_base.specs.declared.plan.PlanOp.{PlanOp}
 use Rattle.mq_base.specs.declared.plan.Step.{Step}
 use Rattle.mq_base.specs.declared.plan.Step.TheVariants as step
-use Rattle.cost_model.specs.Costs.{step_work}
+use Rattle.cost_model.specs.Costs.{sealing, step_work}
 use Rattle.plan_algebra.specs.declared.kind.Kind.{Kind}
 use Rattle.plan_algebra.specs.declared.kind.Kind.TheVariants as kind
+use Rattle.policy_reader.specs.Accepted.{plain_of}
 use Rattle.relation_profile.specs.Profile.{Profile}
 use Rattle.relation_profile.specs.Runnable.{run_dec, run_enc, run_one, run_two}
 use Rattle.relation_profile.specs.View.{profile_of, view_of}
@@ -45,6 +47,23 @@ enc_gain s n a st = held s st.holder (run_enc a.0 (shown s n st)) (step_work s.b
 
 abbrev pub dec_gain : Setting → ℕ → AttrId → State → Option Gain
 dec_gain s n a st = held s st.holder (run_dec a.0 (shown s n st)) (step_work s.basis (step.Dec a) st.holder.0 n st.view)
+
+-- the attributes of the table of node n that a subject sees plain: in a state that it may hold, each of them can be crossed, by its
+-- decryption where it is encrypted, and else by its encryption
+abbrev pub crossable : Setting → ℕ → SubjectId → ℕ
+crossable s n holder = bit_and (known_at s n).visible.0 (plain_of s.policy holder.0)
+
+-- the state across an attribute, which is encrypted in it where it is not in this one, and else not
+abbrev pub across : ℕ → State → State
+across a st = record {
+  holder = st.holder;
+  view = record { enc = record { 0 = bit_xor st.view.enc.0 (2 ^ a) }; ip = st.view.ip; ie = st.view.ie };
+}
+
+-- what is gained across an attribute
+abbrev pub cross_gain : Setting → ℕ → AttrId → State → Option Gain
+cross_gain s n a st =
+    if has (crossable s n st.holder) a.0 then Some (record { state = across a.0 st; cost = sealing s.basis a.0 st.holder.0 n }) else None
 
 abbrev pub send_gain : Setting → ℕ → SubjectId → State → Option Gain
 send_gain s n to st =

@@ -1,5 +1,5 @@
 -- The setting of a job, and which states and steps stand at its nodes. docs/MODEL.md, "States", tells it in prose.
-use Rattle.std.specs.Prelude.{◌≡◌, ℕ, ◌<◌, length, Option, Some, None}
+use Rattle.std.specs.Prelude.{◌≡◌, ℕ, ◌<◌, true, length, Option, Some, None}
 use Rattle.mq_base.specs.declared.ids.NodeId.{NodeId}
 use Rattle.mq_base.specs.declared.ids.TableId.{TableId}
 use Rattle.mq_base.specs.declared.plan.Step.{Step}
@@ -13,9 +13,10 @@ use Rattle.price_reader.specs.declared.prices.Prices.{Prices}
 use Rattle.relation_profile.specs.View.{IsView}
 use Rattle.extended_plan.specs.declared.job.Job.{Job}
 use Rattle.extended_plan.specs.declared.state.State.{State}
-use Rattle.extended_plan.specs.Gains.{Gain}
+use Rattle.extended_plan.specs.Gains.{Gain, shown}
 use Rattle.extended_plan.specs.Parts.{setting_by}
 use Rattle.extended_plan.specs.Setting.{Setting, kind_at, known_at, leaf_of}
+use Rattle.extended_plan.specs.Validity.{may_hold}
 
 -- the setting of a job
 abbrev pub setting_of : Job → Setting
@@ -36,9 +37,14 @@ pub record IsStateAt (s : Setting) (n : ℕ) (st : State) : Type 0 where
   pub known : st.holder.0 < length s.policy.subjects
   pub view : IsView (known_at s n) st.view
 
--- a state at the leaf of a table
+-- a state at a node, for which its holder may hold the table
+pub record IsHeldAt (s : Setting) (n : ℕ) (st : State) : Type 0 where
+  pub at : IsStateAt s n st
+  pub held : may_hold s st.holder (shown s n st) ≡ true
+
+-- a state at the leaf of a table, which its holder may hold
 abbrev pub IsLeafState : Setting → TableId → State → Type 0
-IsLeafState s t st = (n : ℕ) → leaf_of s t ≡ Some n → IsStateAt s n st
+IsLeafState s t st = (n : ℕ) → leaf_of s t ≡ Some n → IsHeldAt s n st
 
 -- a state at the operand of a node with one operand, and states at the operands of a node with two
 abbrev pub IsOperand : Setting → Kind → State → Type 0

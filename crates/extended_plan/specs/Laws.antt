@@ -1,7 +1,9 @@
 -- The laws of extended plans, over the setting of a job: what the state of one tells, how each step leads from states to a state,
 -- what closed labels bound, and that its spelling determines it. docs/MODEL.md, "Extended plans", "States", "Step lists" and
 -- "Certificate", tells them in prose.
-use Rattle.std.specs.Prelude.{◌≡◌, ℕ, ◌+◌, ◌-◌, ◌≤◌, ◌<◌, ◌^◌, true, List, length, Option, Some, bit_or, option_map}
+use Rattle.std.specs.Prelude.{◌≡◌, ℕ, ◌+◌, ◌-◌, ◌≤◌, ◌<◌, ◌^◌, true, List, length, Option, Some, None, bit_or, if◌then◌else◌, option_map}
+use Rattle.base_laws.specs.Sets.{has}
+use Rattle.mq_base.specs.declared.ids.AttrId.{AttrId}
 use Rattle.mq_base.specs.declared.ids.NodeId.{NodeId}
 use Rattle.mq_base.specs.declared.plan.Step.{Step}
 use Rattle.cost_model.specs.Costs.{cut}
@@ -10,7 +12,8 @@ use Rattle.relation_profile.specs.View.{IsView}
 use Rattle.extended_plan.specs.declared.state.Entry.{Entry}
 use Rattle.extended_plan.specs.declared.state.State.{State}
 use Rattle.extended_plan.specs.Certificate.{AreLeastLabels, IsClosed, IsLeastEntry, IsListed, ShowsLeast, ShowsNone}
-use Rattle.extended_plan.specs.Gains.{Gain, dec_gain, enc_gain, leaf_gain, one_gain, send_gain, shown, two_gain}
+use Rattle.extended_plan.specs.Gains.{Gain, cross_gain, dec_gain, enc_gain, leaf_gain, one_gain, send_gain, shown, two_gain}
+use Rattle.extended_plan.specs.Job.{IsHeldAt}
 use Rattle.extended_plan.specs.Ready.{IsReady}
 use Rattle.extended_plan.specs.Setting.{Setting, kind_at, known_at, leaf_of}
 use Rattle.extended_plan.specs.States.{IsLeast, cost, state}
@@ -30,6 +33,15 @@ pub record IsSeenAt (s : Setting) (n : ℕ) (x : Term) : Type 0 where
 -- so is each runnable term that gives a node seen there
 abbrev pub TermsAreSeen : Type 0
 TermsAreSeen = (s : Setting) → IsReady s → (n : ℕ) (x : Term) → node_of s x ≡ Some n → runnable s x ≡ true → IsSeenAt s n x
+
+-- the encryption or the decryption of an attribute gains what is gained across it: the one where it is plain, the other where it is encrypted
+pub record AreAcross (s : Setting) (n : ℕ) (a : AttrId) (st : State) : Type 0 where
+  pub enc : enc_gain s n a st ≡ (if has st.view.enc.0 a.0 then None else cross_gain s n a st)
+  pub dec : dec_gain s n a st ≡ (if has st.view.enc.0 a.0 then cross_gain s n a st else None)
+
+-- so it is in each state that its holder may hold
+abbrev pub CryptsAreAcross : Type 0
+CryptsAreAcross = (s : Setting) (n : ℕ) (a : AttrId) (st : State) → IsHeldAt s n st → AreAcross s n a st
 
 -- a term stands at the one operand of a node
 pub record IsOperandOf (s : Setting) (n : ℕ) (x : Term) : Type 0 where

@@ -1,11 +1,17 @@
 //! The laws of extended plans, for the layers that search, check and run them. Each is a call that takes nothing and does nothing.
 
-ghost use Rattle.extended_plan.specs.Laws.{ClosedLabelsBound, EntriesTellLeast, GainsAreTerms, LeastCostsAreEntries, LeastHasCertificate, LeastIsShown, LeastLabelsAreClosed, NoneHasCertificate, NoneIsShown, SpellingDetermines, TermsAreGained, TermsAreSeen};
+ghost use Rattle.extended_plan.specs.Laws.{ClosedLabelsBound, CryptsAreAcross, EntriesTellLeast, GainsAreTerms, LeastCostsAreEntries, LeastHasCertificate, LeastIsShown, LeastLabelsAreClosed, NoneHasCertificate, NoneIsShown, SpellingDetermines, TermsAreGained, TermsAreSeen};
 
 /// A runnable extended plan that gives a node is held by a subject of the policy; its view is one of the node, and stands there for its
 /// profile. docs/MODEL.md, "States".
 pub fn terms_are_seen()
     ensures { TermsAreSeen }
+{}
+
+/// In a state that its holder may hold, the attributes that the holder sees plain are encrypted, or decrypted where they are encrypted, and
+/// no other ones. docs/MODEL.md, "States".
+pub fn crypts_are_across()
+    ensures { CryptsAreAcross }
 {}
 
 /// What the last step of an extended plan gains from the states of its operands is the plan's state, at what the step costs.

@@ -15,12 +15,12 @@ mod step_no;
 pub use check::{check_steps, check_steps_in};
 pub use job::Job;
 pub use laws::{
-    closed_labels_bound, entries_tell_least, gains_are_terms, least_has_certificate,
-    least_is_shown, least_labels_are_closed, none_has_certificate, none_is_shown,
-    spelling_determines, terms_are_gained, terms_are_seen,
+    closed_labels_bound, crypts_are_across, entries_tell_least, gains_are_terms,
+    least_has_certificate, least_is_shown, least_labels_are_closed, none_has_certificate,
+    none_is_shown, spelling_determines, terms_are_gained, terms_are_seen,
 };
 pub use list_laws::outcomes_are_exact;
 pub use stack::StepStack;
 pub use state::{Entry, Found, Labels, PlanTotals, State};
-pub use step::{after_send, after_step, leaf_state};
+pub use step::{after_cross, after_send, after_step, crossable, leaf_state};
 pub use step_no::{StepNo, StepWhy, StepsNo};

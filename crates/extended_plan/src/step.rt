@@ -1,9 +1,11 @@
-ghost use Rattle.std.specs.Prelude.{◌≡◌, ◌<◌, length, if◌then◌else◌, option_map, Some, None, IfSome, IsSome};
+ghost use Rattle.std.specs.Prelude.{◌≡◌, ◌<◌, true, length, if◌then◌else◌, option_map, Some, None, IfSome, IsSome};
+ghost use Rattle.base_laws.specs.Sets.{has};
 ghost use Rattle.mq_base.specs.declared.plan.Step.TheVariants as step;
 ghost use Rattle.cost_model.specs.Costs as costs;
 ghost use Rattle.cost_model.specs.Costs.{cut, step_work};
-ghost use Rattle.extended_plan.specs.Gains.{leaf_gain, shown, step_gain};
-ghost use Rattle.extended_plan.specs.Job.{AreOperands, IsLeafState, IsStateAt, IsStepAt, setting_of, told};
+ghost use Rattle.extended_plan.specs.Gains as gains;
+ghost use Rattle.extended_plan.specs.Gains.{cross_gain, leaf_gain, shown, step_gain};
+ghost use Rattle.extended_plan.specs.Job.{AreOperands, IsHeldAt, IsLeafState, IsStateAt, IsStepAt, setting_of, told};
 ghost use Rattle.extended_plan.specs.Setting as setting;
 ghost use Rattle.extended_plan.specs.States.{state};
 ghost use Rattle.extended_plan.specs.Term.{Leaf};
@@ -13,7 +15,7 @@ ghost use Rattle.extended_plan.specs.inside.Ran as ran;
 use crate::job::Job;
 use crate::state::State;
 use cost_model::{send_cost, send_load, step_cost};
-use mq_base::{NodeId, PlanOp, Step, SubjectId, TableId};
+use mq_base::{AttrId, AttrSet, NodeId, PlanOp, Step, SubjectId, TableId};
 use relation_profile::{View, after_binary, after_dec, after_enc, after_unary, leaf_view};
 use view_authority::check_view;
 
@@ -96,7 +98,7 @@ pub fn after_step(
     second: Option<&State>,
 ) -> Option<(State, u128)>
     requires { IsStepAt (setting_of job.now) node step.now first.now (option_map (λ s. s.now) second) }
-    ensures within { IfSome result (λ gain. IsStateAt (setting_of job.now) node.0 gain.0) }
+    ensures within { IfSome result (λ gain. IsHeldAt (setting_of job.now) node.0 gain.0) }
     ensures answers { result ≡ option_map told (step_gain (setting_of job.now) node step.now first.now (option_map (λ s. s.now) second.entry)) }
 {
     // Put together from its parts, the state is not copied with the bytes between them, for which the next read would wait.
@@ -106,6 +108,36 @@ pub fn after_step(
         return None;
     }
     Some((state, work_of(job, node, step, first)))
+}
+
+/// The attributes of a node's table that a subject sees plain. Where it may hold the table, it can encrypt or decrypt each of them, and no
+/// other. docs/MODEL.md, "States". It takes no memory, and a time that depends on nothing.
+pub fn crossable(job: &Job<'_>, node: NodeId, holder: SubjectId) -> AttrSet
+    requires node { node.0 < length (setting_of job.now).basis.nodes }
+    requires holder { holder.0 < 16 }
+    ensures { result.0 ≡ gains.crossable (setting_of job.now) node.0 holder }
+{
+    let plain = job.policy.plain(holder);
+    job.facts.visible(node).intersection(plain)
+}
+
+/// The state across an attribute that the holder can encrypt or decrypt, and what that costs, cut at 2^128 - 1. The attribute is decrypted
+/// where it is encrypted, and else encrypted. docs/MODEL.md, "States". It takes no memory, and a time that depends on nothing.
+pub fn after_cross(job: &Job<'_>, node: NodeId, a: AttrId, first: &State) -> (State, u128)
+    requires node { node.0 < length (setting_of job.now).basis.nodes }
+    requires small { a.0 < 64 }
+    requires held { IsHeldAt (setting_of job.now) node.0 first.now }
+    requires crosses { has (gains.crossable (setting_of job.now) node.0 first.now.holder) a.0 ≡ true }
+    ensures within { IsHeldAt (setting_of job.now) node.0 result.0 }
+    ensures answers { Some result ≡ option_map told (cross_gain (setting_of job.now) node.0 a first.now) }
+{
+    let State { holder, view } = *first;
+    let enc = AttrSet(view.enc.0 ^ AttrSet::of(a).0);
+    let across = State {
+        holder,
+        view: View { enc, ..view },
+    };
+    (across, work_of(job, node, &Step::Enc(a), first))
 }
 
 /// The state after a send, and what it costs, as `after_step` tells them. `load` is kept from one send of a table to its next: the
@@ -121,7 +153,7 @@ pub fn after_send(
     requires taken { IsStepAt (setting_of job.now) node (step.Send to) first.now None }
     requires load { IfSome load.old (λ bytes. bytes ≡ costs.load (setting_of job.now).basis node.0 first.now.view) }
     ensures load { IfSome load.new (λ bytes. bytes ≡ costs.load (setting_of job.now).basis node.0 first.now.view) }
-    ensures within { IfSome result (λ gain. IsStateAt (setting_of job.now) node.0 gain.0) }
+    ensures within { IfSome result (λ gain. IsHeldAt (setting_of job.now) node.0 gain.0) }
     ensures answers { result ≡ option_map told (step_gain (setting_of job.now) node (step.Send to) first.now None) }
 {
     let State { holder, view } = sent(job, first, to)?;

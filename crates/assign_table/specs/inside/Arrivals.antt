@@ -15,11 +15,12 @@ use Rattle.assign_table.specs.declared.cell.Cell.{Cell}
 use Rattle.assign_table.specs.declared.way.Settled.{Settled}
 use Rattle.assign_table.specs.declared.way.Way.{Way}
 use Rattle.assign_table.specs.inside.Blocks.{AreDone, IsFrom, IsPlaceOf, base_of, start_of}
+use Rattle.assign_table.specs.inside.Crossing.{IsMet}
 use Rattle.assign_table.specs.inside.Cells.{IsListedOn}
 use Rattle.assign_table.specs.inside.Pairs.{compared_left, compared_right, is_in}
 use Rattle.assign_table.specs.inside.Settling.{IsCrowded, IsGainListed, IsGathered}
 use Rattle.assign_table.specs.inside.Sheet.{Sheet}
-use Rattle.assign_table.specs.inside.Ways.{IsAttained, settled_at}
+use Rattle.assign_table.specs.inside.Ways.{settled_at}
 
 -- the setting of a gate, where the blocks of its node's subtree begin, and what is settled at a place
 abbrev pub gate_setting : Gate → Setting
@@ -52,7 +53,7 @@ IsCrowdedAt gate room = IsCrowded (gate_setting gate) gate.node.0 room
 -- a state arrives at the gate's node with a label, in this way
 abbrev pub IsArrival : Gate → State → ℕ → Way → Type 0
 IsArrival gate st label way =
-    IsAttained (gate_setting gate) gate.settled.now gate.node.0 (gate_base gate) (length gate.settled.now + 1) st label way
+    IsMet (gate_setting gate) gate.settled.now gate.node.0 (gate_base gate) (length gate.settled.now) (length gate.settled.now) st label way
 
 -- what the gate's node gains from one place, or from two, and that it is listed
 abbrev pub one_at : Gate → ℕ → Option Gain

@@ -3,36 +3,39 @@
 use Rattle.std.specs.Prelude.{◌≡◌, ℕ, ◌+◌, ◌^◌, ◌≤◌, ◌<◌, Bool, true, false, List, [], ◌∷◌, ◌++◌, length, All, Some, IfSome, slice_get}
 use Rattle.std.specs.List.{IsDistinct}
 use Rattle.std.specs.Map.{keys_of}
+use Rattle.base_laws.specs.Sets.{has}
 use Rattle.mq_base.specs.declared.ids.AttrId.{AttrId}
 use Rattle.mq_base.specs.declared.ids.SubjectId.{SubjectId}
 use Rattle.mq_base.specs.declared.plan.Step.{Step}
 use Rattle.mq_base.specs.declared.plan.Step.TheVariants as step
 use Rattle.cost_model.specs.Costs.{cut}
 use Rattle.extended_plan.specs.declared.state.State.{State}
-use Rattle.extended_plan.specs.Gains.{Gain, dec_gain, enc_gain, send_gain}
-use Rattle.extended_plan.specs.Job.{IsStateAt}
+use Rattle.extended_plan.specs.Gains.{Gain, across, crossable, dec_gain, enc_gain, send_gain}
+use Rattle.extended_plan.specs.Job.{IsHeldAt}
 use Rattle.extended_plan.specs.Setting.{Setting}
 use Rattle.extended_plan.specs.States.{IsReached, state_eq}
 use Rattle.assign_table.specs.declared.cell.Cell.{Cell}
 use Rattle.assign_table.specs.declared.table.Table.{Table}
 use Rattle.assign_table.specs.declared.way.Settled.{Settled}
-use Rattle.assign_table.specs.inside.Blocks.{AreApart, IsFrom, IsSettled}
 use Rattle.assign_table.specs.inside.Cells.{IsListedOn, cell_of}
+use Rattle.assign_table.specs.inside.Blocks.{AreApart, IsFrom, IsSettled}
+use Rattle.assign_table.specs.inside.Crossing.{IsMet, IsTried, crossed_label}
 use Rattle.assign_table.specs.inside.Order.{IsOrdered}
 use Rattle.assign_table.specs.inside.Sheet.{IsDrained, Sheet, sheet_of}
 use Rattle.assign_table.specs.inside.Ways.{IsAttained, settled_at}
 
--- each cell of a node's table, and each settled state of its block, is attained there; a state has one cell
+-- each cell of a node's table, and each settled state of its block, is attained there, or gained across an attribute there where its way
+-- tells so; a state has one cell
 pub record AreAttained (s : Setting) (n base from : ℕ) (arena : List Settled) (sheet : Sheet) : Type 0 where
   pub cells : (st : State) (cell : Cell) → cell_of sheet.cells st ≡ Some cell
-      → IsAttained s arena n base (length arena + 1) st cell.label cell.way
+      → IsMet s arena n base from (length arena) st cell.label cell.way
   pub block : (place : ℕ) (e : Settled) → from ≤ place → slice_get arena place ≡ Some e
-      → IsAttained s arena n base (place + 1) e.state e.label e.way
+      → IsMet s arena n base from place e.state e.label e.way
   pub distinct : IsDistinct state_eq (keys_of sheet.cells)
 
--- the states of a table are states at the node
+-- the states of a table are states at the node, for which their holders may hold its table
 abbrev pub AreKnown : Setting → ℕ → Sheet → Type 0
-AreKnown s n sheet = (st : State) (cell : Cell) → cell_of sheet.cells st ≡ Some cell → IsStateAt s n st
+AreKnown s n sheet = (st : State) (cell : Cell) → cell_of sheet.cells st ≡ Some cell → IsHeldAt s n st
 
 -- more than so many different states are reached at a node
 pub record IsCrowded (s : Setting) (n room : ℕ) : Type 0 where
@@ -52,11 +55,21 @@ pub record IsGathered (s : Setting) (n base room : ℕ) (arena : List Settled) (
 abbrev pub IsGainListed : List (State × Cell) → ℕ → Gain → Type 0
 IsGainListed cells label gain = IsListedOn cells gain.state (cut (label + gain.cost))
 
--- what one encryption, decryption or send gains from a state with this label is listed
-pub record IsClosedOn (s : Setting) (n : ℕ) (cells : List (State × Cell)) (st : State) (label : ℕ) : Type 0 where
-  pub enc : (a : AttrId) → IfSome (enc_gain s n a st) (IsGainListed cells label)
-  pub dec : (a : AttrId) → IfSome (dec_gain s n a st) (IsGainListed cells label)
-  pub send : (to : SubjectId) → IfSome (send_gain s n to st) (IsGainListed cells label)
+-- the states across the attributes that are tried from a settled state are listed
+abbrev pub AreTried : Setting → ℕ → List (State × Cell) → Settled → Type 0
+AreTried s n cells e =
+    (a : ℕ) → has (crossable s n e.state.holder) a ≡ true → IsTried e.way a → IsListedOn cells (across a e.state) (crossed_label s n a e)
+
+-- the same but for those that are left
+abbrev pub AreTriedBut : Setting → ℕ → List (State × Cell) → Settled → ℕ → Type 0
+AreTriedBut s n cells e left =
+    (a : ℕ) → has (crossable s n e.state.holder) a ≡ true → IsTried e.way a → has left a ≡ false
+    → IsListedOn cells (across a e.state) (crossed_label s n a e)
+
+-- what is tried from a settled state is listed: the states across attributes, and what each send gains
+pub record IsClosedOn (s : Setting) (n : ℕ) (cells : List (State × Cell)) (e : Settled) : Type 0 where
+  pub crossed : AreTried s n cells e
+  pub send : (to : SubjectId) → IfSome (send_gain s n to e.state) (IsGainListed cells e.label)
 
 -- a settled state is listed in a table, and its label, a number that a cell can hold, is not above the front
 pub record IsFront (table : Table) (e : Settled) : Type 0 where
@@ -91,11 +104,6 @@ abbrev pub ShowsCrowd : Setting → ℕ → ℕ → ℕ → Settled → Sheet �
 ShowsCrowd s n room at e old =
     (base from : ℕ) (arena : List Settled) → IsLast arena at e → from ≤ at → AreAttained s n base from arena old → IsCrowded s n room
 
--- what the encryption and the decryption of an attribute gain from a settled state is listed
-pub record AreCryptsListed (s : Setting) (n : ℕ) (a : AttrId) (cells : List (State × Cell)) (e : Settled) : Type 0 where
-  pub enc : IfSome (enc_gain s n a e.state) (IsGainListed cells e.label)
-  pub dec : IfSome (dec_gain s n a e.state) (IsGainListed cells e.label)
-
 -- a turn: the least that waits was settled, and all that it gains was offered
 pub record IsTurned (s : Setting) (n room : ℕ) (arena : List Settled) (old : Sheet) (longer : List Settled) (new : Sheet) : Type 0 where
   pub settled : Settled
@@ -105,7 +113,7 @@ pub record IsTurned (s : Setting) (n room : ℕ) (arena : List Settled) (old : S
   pub known : AreKnown s n old → AreKnown s n new
   pub lower : (st : State) (most : ℕ) → IsListedOn old.cells st most → IsListedOn new.cells st most
   pub within : length old.cells ≤ room → length new.cells ≤ room
-  pub closed : IsClosedOn s n new.cells settled.state settled.label
+  pub closed : IsClosedOn s n new.cells settled
 
 -- there was a turn, or nothing waits any more
 abbrev pub IsTurn : Setting → ℕ → ℕ → Bool → List Settled → Sheet → List Settled → Sheet → Type 0
@@ -130,14 +138,15 @@ pub record IsUnderway (s : Setting) (n room : ℕ) (before : List Settled) (star
   pub known : AreKnown s n sheet
   pub lower : (st : State) (most : ℕ) → IsListedOn start.cells st most → IsListedOn sheet.cells st most
   pub within : length sheet.cells ≤ room
-  pub closed : (place : ℕ) (e : Settled) → length before ≤ place → slice_get arena place ≡ Some e → IsClosedOn s n sheet.cells e.state e.label
+  pub closed : (place : ℕ) (e : Settled) → length before ≤ place → slice_get arena place ≡ Some e → IsClosedOn s n sheet.cells e
 
 -- a gain of a settled state is settled in the block from one place up to another, with a label of at most the sum
 abbrev pub IsGainIn : List Settled → ℕ → ℕ → ℕ → Gain → Type 0
 IsGainIn arena from to label gain = IsSettled arena from to gain.state (cut (label + gain.cost))
 
 -- the states of a node are settled behind what the arena had: at most `room` of them, each once; those of the start with a label of at
--- most theirs, and those that an encryption, a decryption or a send gains; and where the start was attained, each is
+-- most theirs, and what sends gain from them; and where the start was attained, each is, and what encryptions and decryptions gain is
+-- settled too
 pub record IsDone (s : Setting) (n room : ℕ) (before : List Settled) (start : Sheet) (arena : List Settled) : Type 0 where
   pub block : List Settled
   pub grown : arena ≡ before ++ block
@@ -146,9 +155,9 @@ pub record IsDone (s : Setting) (n room : ℕ) (before : List Settled) (start : 
   pub attained : (base : ℕ) → AreAttained s n base (length before) before start → (w : ℕ) → IsFrom (length before) (length arena) w
       → IsAttained s arena n base (w + 1) (settled_at arena w).state (settled_at arena w).label (settled_at arena w).way
   pub arrived : (st : State) (most : ℕ) → IsListedOn start.cells st most → IsSettled arena (length before) (length arena) st most
-  pub enc : (w : ℕ) (a : AttrId) → IsFrom (length before) (length arena) w
+  pub enc : (base : ℕ) → AreAttained s n base (length before) before start → (w : ℕ) (a : AttrId) → IsFrom (length before) (length arena) w
       → IfSome (enc_gain s n a (settled_at arena w).state) (IsGainIn arena (length before) (length arena) (settled_at arena w).label)
-  pub dec : (w : ℕ) (a : AttrId) → IsFrom (length before) (length arena) w
+  pub dec : (base : ℕ) → AreAttained s n base (length before) before start → (w : ℕ) (a : AttrId) → IsFrom (length before) (length arena) w
       → IfSome (dec_gain s n a (settled_at arena w).state) (IsGainIn arena (length before) (length arena) (settled_at arena w).label)
   pub send : (w : ℕ) (to : SubjectId) → IsFrom (length before) (length arena) w
       → IfSome (send_gain s n to (settled_at arena w).state) (IsGainIn arena (length before) (length arena) (settled_at arena w).label)

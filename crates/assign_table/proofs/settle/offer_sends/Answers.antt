@@ -3,7 +3,7 @@ use Rattle.std.proofs.lemmas.Result.{err_from_is_err_and}
 use Rattle.extended_plan.specs.Job.{setting_of}
 use Rattle.assign_table.specs.declared.table.TableNo.{TableNo}
 use Rattle.assign_table.specs.inside.Sheet.{sheet_of}
-use Rattle.assign_table.proofs.CrossLaws.{none-crossing}
+use Rattle.assign_table.proofs.NearLaws.{none-crossing}
 use Rattle.assign_table.proofs.GainLaws.{subjects-all, subjects-more}
 use Rattle.assign_table.proofs.SettleLaws.{continues-then, crowd-later}
 use Rattle.assign_table.proofs.settle.offer_sends.Goals as goal

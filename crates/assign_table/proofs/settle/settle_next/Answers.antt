@@ -8,8 +8,8 @@ use Rattle.assign_table.proofs.SheetLaws.{cell_with}
 use Rattle.assign_table.proofs.TurnLaws.{crowd-turned, turned}
 use Rattle.assign_table.proofs.settle.settle_next.Goals as goal
 
-pub offer_steps-requires-clause-known : goal.offer_steps-requires-clause-known
-offer_steps-requires-clause-known c =
+pub offer_steps-requires-clause-held : goal.offer_steps-requires-clause-held
+offer_steps-requires-clause-held c =
     c.requires.known c.in-Some.taken.settled.state (cell_with c.in-Some.taken.settled.label c.in-Some.taken.settled.way) c.in-Some.ensures.taken.listed
 
 pub returns-in_err-offer_steps-clause-full : goal.returns-in_err-offer_steps-clause-full

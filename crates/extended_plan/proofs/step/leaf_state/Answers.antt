@@ -1,4 +1,4 @@
-use Rattle.std.proofs.Common.{sym, ◌∙◌, arith}
+use Rattle.std.proofs.Common.{refl, sym, ◌∙◌, arith}
 use Rattle.std.proofs.Math.Path.{subst}
 use Rattle.std.specs.Prelude.{IfSome}
 use Rattle.extended_plan.specs.Job.{IsLeafState, setting_of}
@@ -20,4 +20,4 @@ returns-clause-answers c =
 pub returns-clause-within : goal.returns-clause-within
 returns-clause-within c =
     subst (λ o. IfSome o (IsLeafState (setting_of c.args.job.now) c.args.t)) (sym c.where_held.ensures)
-    (leaf_within (setting_of c.args.job.now) c.in_ok-at.at c.args.t _ c.leaf_at.result (sym c.in_ok-at.ensures) c.leaf_at.ensures.stands)
+    (leaf_within (setting_of c.args.job.now) c.in_ok-at.at c.args.t _ c.leaf_at.result (sym c.in_ok-at.ensures) c.leaf_at.ensures.stands refl)

@@ -2,7 +2,7 @@ use Rattle.std.proofs.Common.{◌≡◌, ◌+◌, ◌<◌, [], ◌∷◌, ◌++�
 use Rattle.std.specs.BinaryHeap.{IsHeap}
 use Rattle.std.specs.List.{All}
 use Rattle.assign_table.specs.inside.Queue.{place_cmp}
-use Rattle.assign_table.proofs.CrossLaws.{all-put}
+use Rattle.assign_table.proofs.NearLaws.{all-put}
 use Rattle.assign_table.proofs.QueueLaws.{added, on_either, placed-pushed}
 use Rattle.assign_table.proofs.table.Table.add.Goals as goal
 

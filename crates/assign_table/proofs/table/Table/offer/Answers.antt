@@ -1,5 +1,5 @@
 use Rattle.std.proofs.Common.{subst, sym}
-use Rattle.assign_table.specs.inside.Crossing.{AreCrossed}
+use Rattle.assign_table.specs.inside.Neighbours.{AreCrossed}
 use Rattle.assign_table.proofs.QueueLaws.{is_placed}
 use Rattle.assign_table.proofs.table.Table.offer.Goals as goal
 

@@ -5,7 +5,7 @@ use Rattle.std.specs.BinaryHeap.{IsHeap}
 use Rattle.std.specs.List.{All}
 use Rattle.indexmap.specs.IndexMap.{set_value_at}
 use Rattle.assign_table.specs.inside.Queue.{place_cmp}
-use Rattle.assign_table.proofs.CrossLaws.{all-lowered, all-noted}
+use Rattle.assign_table.proofs.NearLaws.{all-lowered, all-noted}
 use Rattle.assign_table.proofs.QueueLaws.{is_placed, length-set, lower_there, lowered, not_lower_there, on_either, placed-pushed}
 use Rattle.assign_table.proofs.table.Table.offer_at.Goals as goal
 

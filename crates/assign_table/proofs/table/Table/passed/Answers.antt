@@ -1,5 +1,5 @@
 use Rattle.std.proofs.Common.{arith}
-use Rattle.assign_table.proofs.CrossLaws.{crossed-read}
+use Rattle.assign_table.proofs.NearLaws.{crossed-read}
 use Rattle.assign_table.proofs.table.Table.passed.Goals as goal
 
 pub returns-clause-crossed : goal.returns-clause-crossed
