@@ -21,21 +21,22 @@ use Rattle.extended_plan.specs.StepList.{last_fault, outcome_after}
 use Rattle.extended_plan.specs.Term as term
 use Rattle.extended_plan.specs.Term.{Term, Enc, Dec, Send, Un, spell}
 use Rattle.extended_plan.specs.Validity.{profile, runnable}
-use Rattle.provider_engine.proofs.ColumnLaws.{rows_length}
+use Rattle.column_table.proofs.ColumnLaws.{rows_length}
 use Rattle.provider_engine.proofs.DecodeLaws.{frame_of, run_tells, un_tells}
 use Rattle.provider_engine.proofs.NodeLaws.{one_tree}
 use Rattle.provider_engine.proofs.TypedLaws.{has_group}
 use Rattle.provider_engine.proofs.CellLaws.{Tells}
 use Rattle.provider_engine.specs.declared.held.Held.{Held}
-use Rattle.provider_engine.specs.Cells.{Seals}
-use Rattle.provider_engine.specs.Columns.{shown_columns}
+use Rattle.column_table.specs.Cells.{Seals}
+use Rattle.column_table.specs.Columns.{shown_columns}
 use Rattle.provider_engine.specs.Decoding.{IsRun}
 use Rattle.provider_engine.specs.Held.{node_of, state_of, table_of}
 use Rattle.provider_engine.specs.OfJob.{IsOfJob, IsOpenedBy}
 use Rattle.provider_engine.specs.Opening.{seals_of}
 use Rattle.provider_engine.specs.Run.{enc_run}
 use Rattle.provider_engine.specs.Steps.{IsRunnableOn, node_after, rows_after, state_after}
-use Rattle.provider_engine.specs.Wide.{NoneIsWide, most_rows, tree_of_node}
+use Rattle.provider_engine.specs.Wide.{NoneIsWide, tree_of_node}
+use Rattle.column_table.specs.Tables.{most_rows}
 use Rattle.row_algebra.proofs.LikenessLaws.{beside_length}
 use Rattle.row_algebra.specs.Contents.{Contents}
 use Rattle.row_algebra.specs.Likeness.{IsLike}

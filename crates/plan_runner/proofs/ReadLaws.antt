@@ -19,8 +19,8 @@ use Rattle.extended_plan.specs.Term as term
 use Rattle.key_clusters.specs.Keys.{scheme_at}
 use Rattle.provider_engine.proofs.DecodeLaws.{runs_decode}
 use Rattle.provider_engine.specs.declared.held.Held.{Held}
-use Rattle.provider_engine.specs.Cells.{Plain, Seals}
-use Rattle.provider_engine.specs.Columns.{Shown, column_at, shown, shown_columns}
+use Rattle.column_table.specs.Cells.{Plain, Seals}
+use Rattle.column_table.specs.Columns.{Shown, column_at, shown, shown_columns}
 use Rattle.provider_engine.specs.Decoding.{IsRun}
 use Rattle.provider_engine.specs.Held.{column_of, node_of, state_of, table_of}
 use Rattle.provider_engine.specs.OfJob.{IsColumnAt, IsOfJob}

@@ -8,10 +8,10 @@ use Rattle.std.proofs.lemmas.Option.{slice_get-map}
 use Rattle.base_laws.proofs.FilterLaws.{map_map}
 use Rattle.mq_base.specs.declared.query.Item.{Item}
 use Rattle.mq_base.specs.declared.value.Value.{Value}
-use Rattle.provider_engine.proofs.ColumnLaws.{rows_length}
+use Rattle.column_table.proofs.ColumnLaws.{rows_length}
 use Rattle.provider_engine.specs.declared.held.Held.{Held}
-use Rattle.provider_engine.specs.Cells.{Plain, Sealed}
-use Rattle.provider_engine.specs.Columns.{rows_in, shown_columns}
+use Rattle.column_table.specs.Cells.{Plain, Sealed}
+use Rattle.column_table.specs.Columns.{rows_in, shown_columns}
 use Rattle.provider_engine.specs.Held.{table_of}
 use Rattle.plan_runner.specs.inside.Shown.{plain_items, plain_value, row_of}
 

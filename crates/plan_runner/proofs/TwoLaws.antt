@@ -25,13 +25,14 @@ use Rattle.provider_engine.proofs.DecodeLaws.{bin_tells, frame_of, run_tells}
 use Rattle.provider_engine.proofs.NodeLaws.{two_tree}
 use Rattle.provider_engine.proofs.TypedLaws.{has_group}
 use Rattle.provider_engine.specs.declared.held.Held.{Held}
-use Rattle.provider_engine.specs.Cells.{cell_tests}
+use Rattle.column_table.specs.Cells.{cell_tests}
 use Rattle.provider_engine.specs.Decoding.{IsRun}
 use Rattle.provider_engine.specs.Held.{node_of, state_of, table_of}
 use Rattle.provider_engine.specs.Opening.{seals_of}
 use Rattle.provider_engine.specs.Run.{enc_run}
 use Rattle.provider_engine.specs.Steps.{state_after_two}
-use Rattle.provider_engine.specs.Wide.{NoneIsWide, most_rows, tree_of_node}
+use Rattle.provider_engine.specs.Wide.{NoneIsWide, tree_of_node}
+use Rattle.column_table.specs.Tables.{most_rows}
 use Rattle.row_algebra.proofs.LikenessLaws.{beside_length}
 use Rattle.row_algebra.specs.Contents.{Contents}
 use Rattle.row_algebra.specs.Likeness.{IsLike}

@@ -1,9 +1,9 @@
 //! The rows of a table, read through a select list.
 
 ghost use Rattle.std.specs.Prelude.{◌≡◌, ◌<◌, All, IfOk, OnOk, ◌++◌, Some, None, filter_map, map, option_and_then, option_map, option_to_list, slice_get, length};
+ghost use Rattle.column_table.specs.Columns.{shown};
 ghost use Rattle.mq_base.specs.Small.{IsSmallItem};
 ghost use Rattle.plan_runner.specs.inside.Shown.{plain_item, plain_items, plain_value, row_of};
-ghost use Rattle.provider_engine.specs.Columns.{shown};
 ghost use Rattle.provider_engine.specs.Held.{table_of};
 ghost use Rattle.row_algebra.specs.Values.{value_count};
 

@@ -1,6 +1,8 @@
 //! The engine's steps, on the tables that the earlier steps left.
 
 ghost use Rattle.std.specs.Prelude.{◌≡◌, ◌+◌, ◌<◌, ◌^◌, List, ℕ, IfOk, OnOk, drop, length};
+ghost use Rattle.column_table.specs.Cells.{cell_tests};
+ghost use Rattle.column_table.specs.Tables.{most_rows};
 ghost use Rattle.extended_plan.specs.Job.{setting_of};
 ghost use Rattle.extended_plan.specs.Setting.{op_at};
 ghost use Rattle.mq_base.specs.declared.ids.NodeId.{NodeId};
@@ -9,22 +11,21 @@ ghost use Rattle.plan_runner.specs.declared.stop.RunStop.TheVariants.{RowRange};
 ghost use Rattle.plan_runner.specs.inside.Made.{IsMadeOfLeaf, IsMadeOnOne, IsMadeOnTwo, IsReadyForLeaf, IsReadyForTwo};
 ghost use Rattle.plan_runner.specs.inside.UnderWay.{IsUnderWay};
 ghost use Rattle.plan_runner.specs.Running.{IsFirstWide};
-ghost use Rattle.provider_engine.specs.Cells.{cell_tests};
 ghost use Rattle.provider_engine.specs.Decoding.{IsRun};
 ghost use Rattle.provider_engine.specs.Held.{table_of};
 ghost use Rattle.provider_engine.specs.OfJob.{IsOfJob, IsOpenedBy};
 ghost use Rattle.provider_engine.specs.Opening.{seals_of};
 ghost use Rattle.provider_engine.specs.Steps.{IsRunnableOn};
 ghost use Rattle.provider_engine.specs.Typed.{AreTyped};
-ghost use Rattle.provider_engine.specs.Wide.{most_rows};
 ghost use Rattle.row_algebra.specs.Contents.{Contents};
 
 use crate::pile::Pile;
 use crate::stop::RunStop;
+use column_table::RunNo;
 use extended_plan::Job;
 use key_clusters::Keys;
 use mq_base::{NoMemory, NodeId, PlainTable, Step};
-use provider_engine::{Held, RunNo, run_binary, run_leaf, run_unary};
+use provider_engine::{Held, run_binary, run_leaf, run_unary};
 use std::alloc::Global;
 
 // Takes the step at a place: it takes its operands off the stack, or a table that waits, and puts the table that it makes on the stack.

@@ -28,7 +28,7 @@ use Rattle.provider_engine.proofs.OrLaws.{either, or_first, or_second}
 use Rattle.provider_engine.proofs.LeafLaws.{column_of}
 use Rattle.provider_engine.proofs.OperationLaws.{under_function}
 use Rattle.provider_engine.specs.Agreement.{AreSameIn, HiddenColumnsDoNotMatter, seen_by}
-use Rattle.provider_engine.specs.Cells.{Cell, Plain, Seals, cell_tests}
+use Rattle.column_table.specs.Cells.{Cell, Plain, Seals, cell_tests}
 use Rattle.provider_engine.specs.Run.{enc_run, opened_cell, opened_row, plain_row, sealed_cell, sealed_row}
 use Rattle.relation_profile.specs.Profile.{Profile}
 use Rattle.relation_profile.specs.Steps as step

@@ -22,7 +22,7 @@ use Rattle.mq_base.specs.declared.value.ValueType.{ValueType}
 use Rattle.mq_base.specs.declared.value.ValueType.TheVariants as type
 use Rattle.mq_base.specs.BoundQuery.{HaveOneType, type_at}
 use Rattle.mq_base.specs.Value.{IsCell, type_of, value_cmp}
-use Rattle.provider_engine.specs.Cells.{Cell, Plain, Sealed, cell_tests, compares_pair}
+use Rattle.column_table.specs.Cells.{Cell, Plain, Sealed, cell_tests, compares_pair}
 use Rattle.provider_engine.specs.Typed.{IsConstantOf}
 use Rattle.provider_engine.specs.Decoding.{ShareSeals}
 use Rattle.provider_engine.specs.Opening.{listed_key, seals_of}

@@ -23,7 +23,8 @@ use Rattle.provider_engine.proofs.NodeLaws.{IsLeafTree, leaf_tree, one_tree, two
 use Rattle.provider_engine.proofs.OperationLaws.{one_tells, two_tells}
 use Rattle.provider_engine.proofs.StepLaws.{IsOpenedFrom, IsSealedFrom, decoding, opening_tells, sealing_tells}
 use Rattle.provider_engine.specs.Decoding.{IsRun, IsRunTo, RunsDecode}
-use Rattle.provider_engine.specs.Wide.{NoneIsWide, most_rows, tree_of_node}
+use Rattle.provider_engine.specs.Wide.{NoneIsWide, tree_of_node}
+use Rattle.column_table.specs.Tables.{most_rows}
 use Rattle.provider_engine.proofs.TypedLaws.{IsTyped, has_group, narrow_left, narrow_one, narrow_right, narrow_root, tree_typed}
 use Rattle.provider_engine.specs.Opening.{seals_of}
 use Rattle.provider_engine.specs.Run.{enc_run, plain_row, sealed_rows}

@@ -23,7 +23,7 @@ use Rattle.plan_algebra.specs.Facts.{facts_of}
 use Rattle.plan_algebra.specs.Meaning.{node_rows}
 use Rattle.plan_algebra.specs.Nodes.{nodes_of, subtrees}
 use Rattle.plan_algebra.specs.Tree as tree
-use Rattle.provider_engine.specs.Cells.{Cell, Plain, Sealed, Seals}
+use Rattle.column_table.specs.Cells.{Cell, Plain, Sealed, Seals}
 use Rattle.provider_engine.specs.Run.{decoded, enc_run}
 use Rattle.row_algebra.specs.Contents.{Contents, contents_of}
 use Rattle.row_algebra.specs.Rows.{RowOf}

@@ -15,7 +15,7 @@ use Rattle.mq_base.specs.declared.value.ValueType.TheVariants as type
 use Rattle.mq_base.specs.BoundQuery.{type_at}
 use Rattle.mq_base.specs.Value.{value_cmp}
 use Rattle.provider_engine.proofs.CellLaws.{Frame, IsSplit, Tells, order_comparable}
-use Rattle.provider_engine.specs.Cells.{Cell, Plain, Sealed, cell_step, cell_tests, compares_pair, summed}
+use Rattle.column_table.specs.Cells.{Cell, Plain, Sealed, cell_step, cell_tests, compares_pair, summed}
 use Rattle.provider_engine.specs.Opening.{seals_of}
 use Rattle.relation_profile.specs.Profile.{Profile}
 use Rattle.relation_profile.specs.Runnable.{is_comparable}

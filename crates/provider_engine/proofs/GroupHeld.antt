@@ -34,17 +34,17 @@ use Rattle.mq_base.specs.Value.{IsCell, type_of}
 use Rattle.plan_algebra.specs.declared.facts.NodeFacts.{NodeFacts}
 use Rattle.plan_algebra.specs.Facts.{IsGroupOf, IsOneAt, IsOneOn, IsVisible, group_set, one_facts}
 use Rattle.provider_engine.specs.declared.held.Held.{Held}
-use Rattle.provider_engine.specs.declared.table.Table.{Table}
-use Rattle.provider_engine.specs.Cells.{Cell, Plain, Sealed}
-use Rattle.provider_engine.specs.Columns.{Shown, at_rows, is_sealed, shown_columns}
+use Rattle.column_table.specs.declared.table.Table.{Table}
+use Rattle.column_table.specs.Cells.{Cell, Plain, Sealed}
+use Rattle.column_table.specs.Columns.{Shown, at_rows, is_sealed, shown_columns}
 use Rattle.provider_engine.specs.Held.{column_of, node_of, state_of}
 use Rattle.provider_engine.specs.OfJob.{IsBeforeGroup, IsColumnAt, IsColumnOpened, IsOfJob, IsOpenedBy, IsShownAt, StandsFor}
 use Rattle.provider_engine.specs.Opening.{listed_key}
 use Rattle.provider_engine.specs.Steps.{IsRunnableOn, state_after}
 use Rattle.provider_engine.specs.Typed.{AreTyped, IsTypedOp, groups}
-use Rattle.provider_engine.specs.inside.Folds.{AreCellsOf, AreSums, HasOrder, IsFoldable, IsGroupFit, IsGroupFrom, IsGroupMade, IsMadeOf, IsPlaceOf, IsSmallInt, folded_at, group_cell}
-use Rattle.provider_engine.specs.inside.Groups.{first_in}
-use Rattle.provider_engine.specs.inside.Pairs.{column_in}
+use Rattle.column_table.specs.Groups.{AreCellsOf, AreSums, HasOrder, IsFoldable, IsGroupFrom, IsMadeOf, IsPlaceOf, IsSmallInt, first_in, folded_at, group_cell}
+use Rattle.provider_engine.specs.inside.Operations.{IsGroupFit, IsGroupMade}
+use Rattle.column_table.specs.Tables.{column_in}
 use Rattle.provider_engine.proofs.HeldLaws.{before_group, one_at, opened_at_rows, runs_after_one, sealed_as_viewed, view_after_one}
 use Rattle.relation_profile.specs.declared.view.View.{View}
 use Rattle.relation_profile.specs.Runnable.{all_comparable, is_comparable, may_fold, runs_one}

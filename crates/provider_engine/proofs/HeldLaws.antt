@@ -11,11 +11,11 @@ use Rattle.mq_base.specs.declared.ids.NodeId.{NodeId}
 use Rattle.mq_base.specs.declared.plan.Step.TheVariants as step
 use Rattle.mq_base.specs.Value.{IsCell}
 use Rattle.plan_algebra.specs.Facts.{IsNodeAt, IsOneAt}
-use Rattle.provider_engine.specs.Columns.{Shown, at_rows, column_at, columns_at, is_sealed}
+use Rattle.column_table.specs.Columns.{Shown, at_rows, column_at, columns_at, is_sealed}
 use Rattle.provider_engine.specs.OfJob.{IsBeforeGroup, IsColumnAt, IsColumnOpened, StandsFor}
 use Rattle.provider_engine.specs.Opening.{listed_key}
 use Rattle.provider_engine.specs.Steps.{IsOnOne, at_holder, state_after}
-use Rattle.provider_engine.proofs.ColumnLaws.{column_at-map}
+use Rattle.column_table.proofs.ColumnLaws.{column_at-map}
 use Rattle.relation_profile.specs.declared.view.View.{View}
 use Rattle.relation_profile.specs.Runnable.{runs_one}
 use Rattle.relation_profile.specs.Steps.{after_one}

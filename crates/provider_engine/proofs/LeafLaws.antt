@@ -12,7 +12,7 @@ use Rattle.mq_base.specs.declared.value.Value.{Value}
 use Rattle.mq_base.specs.Value.{IsCell}
 use Rattle.provider_engine.proofs.CellLaws.{Frame, IsValueOf, Tells, cell_sealable, cell_typed}
 use Rattle.provider_engine.proofs.StepLaws.{IsSealedFrom}
-use Rattle.provider_engine.specs.Cells.{Plain}
+use Rattle.column_table.specs.Cells.{Plain}
 use Rattle.provider_engine.specs.Run.{plain_row}
 use Rattle.relation_profile.specs.Profile.{Profile}
 use Rattle.relation_profile.specs.Steps.{leaf_profile}

@@ -50,9 +50,9 @@ use Rattle.sealed_column.proofs.CellLaws.{Together, together_at}
 use Rattle.provider_engine.proofs.LeafLaws.{column_of as info_of}
 use Rattle.provider_engine.proofs.BoundLaws.{EachOp, at_place, each_node, each_over}
 use Rattle.sealed_column.specs.declared.column.AnyColumn.{AnyColumn}
-use Rattle.provider_engine.specs.Columns as columns_shown
-use Rattle.provider_engine.specs.Columns.{Shown, column_at, has_rows, rows_in, shown_columns}
-use Rattle.provider_engine.specs.Cells.{Cell, Plain, Seals}
+use Rattle.column_table.specs.Columns as columns_shown
+use Rattle.column_table.specs.Columns.{Shown, column_at, has_rows, rows_in, shown_columns}
+use Rattle.column_table.specs.Cells.{Cell, Plain, Seals}
 use Rattle.provider_engine.specs.OfJob.{IsColumnAt, IsColumnOpened, StandsFor}
 use Rattle.provider_engine.specs.Opening.{listed_key, seals_of}
 use Rattle.provider_engine.specs.Run.{plain_row, sealed_cell, sealed_row, sealed_rows}

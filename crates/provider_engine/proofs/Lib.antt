@@ -15,19 +15,10 @@ pub mod BoundLaws
 pub mod KeyLaws
 pub mod SubtermLaws
 mod Examples
-pub mod ColumnLaws
 pub mod HeldLaws
 pub mod SealRows
 pub mod LeafRows
-pub mod ChoiceLaws
-pub mod CutLaws
+pub mod SelectionLaws
 pub mod OneLaws
-pub mod PairRows
-pub mod BesideRows
-pub mod JoinRows
-pub mod BareRows
 pub mod TwoHeld
-pub mod LabelRows
-pub mod FoldRows
-pub mod GroupRows
 pub mod GroupHeld

@@ -15,7 +15,7 @@ use Rattle.mq_base.specs.declared.plan.PlanOp.TheVariants as op
 use Rattle.mq_base.specs.declared.plan.Step.TheVariants as step
 use Rattle.plan_algebra.specs.declared.facts.NodeFacts.{NodeFacts}
 use Rattle.plan_algebra.specs.Facts.{IsOneOn, one_facts}
-use Rattle.provider_engine.specs.Columns.{Shown, column_at, columns_at}
+use Rattle.column_table.specs.Columns.{Shown, column_at, columns_at}
 use Rattle.provider_engine.specs.OfJob.{IsBeforeGroup, IsColumnAt, IsColumnOpened}
 use Rattle.provider_engine.specs.Steps.{IsOnOne, state_after}
 use Rattle.provider_engine.specs.inside.Choosing.{IsSelection}

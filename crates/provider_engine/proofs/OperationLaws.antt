@@ -22,7 +22,7 @@ use Rattle.plan_algebra.specs.Facts.{group_set}
 use Rattle.plan_algebra.specs.Tree.{apply_one, apply_two}
 use Rattle.provider_engine.proofs.CellLaws.{Frame, IsSplit, ShowsMore, Tells, column_agrees, constant_agrees, member_comparable, pair_agrees, tells_more, type_small}
 use Rattle.provider_engine.proofs.FoldLaws.{greatest_tells, least_tells, sum_tells}
-use Rattle.provider_engine.specs.Cells.{Cell, cell_tests}
+use Rattle.column_table.specs.Cells.{Cell, cell_tests}
 use Rattle.provider_engine.specs.Typed.{IsTypedOp, groups}
 use Rattle.provider_engine.specs.Decoding.{ShareSeals}
 use Rattle.provider_engine.specs.Opening.{seals_of}

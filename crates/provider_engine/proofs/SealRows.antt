@@ -24,16 +24,16 @@ use Rattle.mq_base.specs.declared.value.ValueType.{ValueType}
 use Rattle.mq_base.specs.BoundQuery.{type_at}
 use Rattle.mq_base.specs.Value.{IsCell}
 use Rattle.provider_engine.specs.declared.held.Held.{Held}
-use Rattle.provider_engine.specs.Cells.{Cell, Plain, Sealed, Seals}
-use Rattle.provider_engine.specs.Columns as columns_shown
-use Rattle.provider_engine.specs.Columns.{Shown, cell_at, column_at, count_at, counts_have, has_rows, is_sealed, row_at, rows_in, shown_columns}
+use Rattle.column_table.specs.Cells.{Cell, Plain, Sealed, Seals}
+use Rattle.column_table.specs.Columns as columns_shown
+use Rattle.column_table.specs.Columns.{Shown, cell_at, column_at, count_at, counts_have, has_rows, is_sealed, row_at, rows_in, shown_columns}
 use Rattle.provider_engine.specs.OfJob.{IsBeforeGroup, IsColumnAt, IsColumnOpened, IsOfJob, IsOpenedBy, IsShownAt, StandsFor}
 use Rattle.provider_engine.specs.Held.{table_of}
 use Rattle.provider_engine.specs.Opening.{listed_key, seals_of}
 use Rattle.provider_engine.specs.Run.{opened_cell, opened_row, sealed_cell, sealed_row, sealed_rows}
 use Rattle.provider_engine.specs.Steps.{state_after}
 use Rattle.provider_engine.specs.inside.Sealing.{ColumnOpens, IsLocked, IsLockedAt, IsOpenedAt, locked_column, plain_column, with_column}
-use Rattle.provider_engine.proofs.ColumnLaws.{column_is, filled_at}
+use Rattle.column_table.proofs.ColumnLaws.{column_is, filled_at}
 use Rattle.provider_engine.proofs.OpenLaws.{opened_is}
 use Rattle.relation_profile.specs.declared.view.View.{View}
 use Rattle.sealed_column.specs.declared.column.AnyColumn.{AnyColumn}

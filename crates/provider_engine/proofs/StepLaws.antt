@@ -5,7 +5,7 @@ use Rattle.base_laws.specs.Sets.{has}
 use Rattle.mq_base.specs.declared.value.Value.{Value}
 use Rattle.provider_engine.proofs.CellLaws.{Frame, ShowsMore, Tells, key_in, scheme_in, tells_more}
 use Rattle.provider_engine.proofs.OpenLaws.{opened_is}
-use Rattle.provider_engine.specs.Cells.{Cell, Plain, Sealed}
+use Rattle.column_table.specs.Cells.{Cell, Plain, Sealed}
 use Rattle.provider_engine.specs.Opening.{seals_of}
 use Rattle.provider_engine.specs.Run.{decoded, decoded_cell, opened_cell, opened_row, sealed_cell, sealed_row, sealed_rows}
 use Rattle.relation_profile.specs.Profile.{Profile}

@@ -17,12 +17,14 @@ use Rattle.plan_algebra.specs.declared.facts.NodeFacts.{NodeFacts}
 use Rattle.plan_algebra.specs.declared.kind.Kind.TheVariants as kind
 use Rattle.plan_algebra.specs.Facts.{AreApart, IsNodeAt, IsTwoAt, IsTwoOn, two_facts}
 use Rattle.provider_engine.specs.declared.held.Held.{Held}
-use Rattle.provider_engine.specs.declared.table.Table.{Table}
-use Rattle.provider_engine.specs.Columns.{Shown, at_rows, is_sealed, shown_columns}
+use Rattle.column_table.specs.declared.table.Table.{Table}
+use Rattle.column_table.specs.Columns.{Shown, at_rows, is_sealed, shown_columns}
 use Rattle.provider_engine.specs.Held.{column_of, node_of, state_of}
 use Rattle.provider_engine.specs.OfJob.{IsBeforeGroup, IsColumnAt, IsColumnOpened, IsOfJob, IsOpenedBy}
 use Rattle.provider_engine.specs.Steps.{IsRunnableOnTwo, at_holder, state_after_two}
-use Rattle.provider_engine.specs.inside.Pairs.{IsBeside, IsOnTables, column_in}
+use Rattle.column_table.specs.Beside.{IsBeside}
+use Rattle.provider_engine.specs.inside.Operations.{IsOnTables}
+use Rattle.column_table.specs.Tables.{column_in}
 use Rattle.provider_engine.proofs.HeldLaws.{before_group, opened_at_rows, sealed_as_viewed}
 use Rattle.relation_profile.specs.declared.view.View.{View}
 use Rattle.relation_profile.specs.Profile.{Profile}

@@ -11,7 +11,8 @@ use Rattle.plan_algebra.specs.Nodes.{leaf_by, subtrees}
 use Rattle.plan_algebra.specs.Tree.{Tree, Leaf, One, Two, sem}
 use Rattle.provider_engine.proofs.NodeLaws.{bare_tree, every_node, one_tree, two_tree}
 use Rattle.provider_engine.specs.Typed.{AreTyped, IsTypedOp, groups}
-use Rattle.provider_engine.specs.Wide.{NodesAreNarrow, NoneIsWide, most_rows, tree_of_node}
+use Rattle.provider_engine.specs.Wide.{NodesAreNarrow, NoneIsWide, tree_of_node}
+use Rattle.column_table.specs.Tables.{most_rows}
 use Rattle.row_algebra.specs.Contents.{Contents}
 use Rattle.row_algebra.specs.Values.{value_tests}
 use Rattle.provider_engine.proofs.OrLaws.{either}

@@ -1,6 +1,7 @@
 -- That columns which a subject may see in no form do not matter to a table that it holds. docs/MODEL.md, "Encoded run", tells it in prose.
 use Rattle.std.specs.Prelude.{◌≡◌, ℕ, true, Some, bit_or}
 use Rattle.base_laws.specs.Sets.{has}
+use Rattle.column_table.specs.Cells.{Seals}
 use Rattle.extended_plan.specs.Setting.{Setting, leaf_of}
 use Rattle.extended_plan.specs.Term.{Term, holder}
 use Rattle.extended_plan.specs.Validity.{StandsAt}
@@ -8,7 +9,6 @@ use Rattle.mq_base.specs.declared.ids.SubjectId.{SubjectId}
 use Rattle.mq_base.specs.declared.ids.TableId.{TableId}
 use Rattle.mq_base.specs.declared.value.Value.{Value}
 use Rattle.policy_reader.specs.Accepted.{plain_of, sealed_of}
-use Rattle.provider_engine.specs.Cells.{Seals}
 use Rattle.provider_engine.specs.Run.{enc_run}
 use Rattle.row_algebra.specs.Contents.{Contents, HaveForm}
 use Rattle.row_algebra.specs.Likeness.{Beside}

@@ -1,17 +1,13 @@
 -- A table that is held: its node, its state, its columns, and the rows that it stands for. docs/MODEL.md, "Encoded run", tells it in
 -- prose.
 use Rattle.std.specs.Prelude.{ℕ, List, Option}
+use Rattle.column_table.specs.Cells.{Cell}
+use Rattle.column_table.specs.Columns.{Shown, column_at, shown_columns}
+use Rattle.column_table.specs.Tables.{rows_of}
 use Rattle.extended_plan.specs.declared.state.State.{State}
 use Rattle.mq_base.specs.declared.ids.NodeId.{NodeId}
-use Rattle.provider_engine.specs.declared.table.Table.{Table}
 use Rattle.provider_engine.specs.declared.held.Held.{Held}
-use Rattle.provider_engine.specs.Cells.{Cell}
-use Rattle.provider_engine.specs.Columns.{Shown, column_at, rows_in, shown_columns}
 use Rattle.row_algebra.specs.Rows.{RowOf}
-
--- the rows of a table
-abbrev pub rows_of : Table → List (RowOf Cell)
-rows_of table = rows_in (shown_columns table.columns) table.counts table.rows
 
 -- the rows of a table that is held
 abbrev pub table_of : Held → List (RowOf Cell)

@@ -1,4 +1,3 @@
-pub mod Cells
 pub mod Opening
 pub mod Run
 pub mod Typed
@@ -6,7 +5,6 @@ pub mod Wide
 pub mod Decoding
 pub mod Agreement
 pub mod Subterms
-pub mod Columns
 pub mod Held
 pub mod OfJob
 pub mod Steps

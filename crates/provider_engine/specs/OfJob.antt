@@ -3,6 +3,8 @@
 use Rattle.std.specs.Prelude.{◌≡◌, ℕ, ◌<◌, true, false, List, length, Option, Some, None, IfSome, is_some, if◌then◌else◌}
 use Rattle.std.specs.List.{All}
 use Rattle.base_laws.specs.Sets.{has}
+use Rattle.column_table.specs.Cells.{Cell, Plain, Sealed}
+use Rattle.column_table.specs.Columns.{Shown}
 use Rattle.extended_plan.specs.Job.{IsStateAt}
 use Rattle.extended_plan.specs.Setting.{Setting, known_at, op_at}
 use Rattle.key_clusters.specs.Keys.{scheme_at}
@@ -11,8 +13,6 @@ use Rattle.mq_base.specs.declared.value.Value.{Value}
 use Rattle.mq_base.specs.BoundQuery.{type_at}
 use Rattle.mq_base.specs.Value.{IsCell}
 use Rattle.provider_engine.specs.declared.held.Held.{Held}
-use Rattle.provider_engine.specs.Cells.{Cell, Plain, Sealed}
-use Rattle.provider_engine.specs.Columns.{Shown}
 use Rattle.provider_engine.specs.Held.{column_of, counts_of, node_of, state_of}
 use Rattle.provider_engine.specs.Opening.{listed_key}
 use Rattle.provider_engine.specs.Typed.{groups}

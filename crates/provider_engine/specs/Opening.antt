@@ -4,12 +4,12 @@ use Rattle.std.specs.Prelude.{ℕ, zero, suc, ◌^◌, ◌-◌, Bool, List, [], 
 use Rattle.std.specs.List.{range_with_len}
 use Rattle.std.specs.Str.{bytes_eq}
 use Rattle.cipher_stream.specs.Stream.{row_of, step_of}
+use Rattle.column_table.specs.Cells.{Seals}
 use Rattle.key_clusters.specs.declared.assigned.Clusters.{Clusters}
 use Rattle.key_clusters.specs.Keys.{scheme_at}
 use Rattle.mq_base.specs.declared.table.Scheme.{Scheme}
 use Rattle.mq_base.specs.declared.value.Value.{Value}
 use Rattle.mq_base.specs.declared.value.Value.TheVariants.{Int, Text}
-use Rattle.provider_engine.specs.Cells.{Seals}
 use Rattle.sealed_column.specs.Seal.{seal}
 
 -- the INT that counts so from the least one of 128 bits

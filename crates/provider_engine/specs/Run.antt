@@ -4,12 +4,12 @@ use Rattle.std.specs.Prelude.{ℕ, ◌+◌, ◌^◌, List, length, map, Option, 
 use Rattle.std.specs.List.{enumerate_from}
 use Rattle.std.specs.Option.{option_map_or}
 use Rattle.base_laws.specs.Sets.{has}
+use Rattle.column_table.specs.Cells.{Cell, Plain, Sealed, Seals, cell_tests}
 use Rattle.extended_plan.specs.Setting.{Setting, op_at}
 use Rattle.extended_plan.specs.Term.{Term, Leaf, Enc, Dec, Send, Un, Bin, spell}
 use Rattle.extended_plan.specs.Validity.{used_at}
 use Rattle.mq_base.specs.declared.value.Value.{Value}
 use Rattle.plan_algebra.specs.Tree.{apply_one, apply_two}
-use Rattle.provider_engine.specs.Cells.{Cell, Plain, Sealed, Seals, cell_tests}
 use Rattle.row_algebra.specs.Contents.{Contents}
 use Rattle.row_algebra.specs.Rows.{RowOf, cut, mapped}
 

@@ -1,6 +1,7 @@
 -- What one step makes of the tables that it takes: the case of the encoded run, and the state. docs/MODEL.md, "Encoded run", tells it in
 -- prose.
 use Rattle.std.specs.Prelude.{◌≡◌, ℕ, ◌^◌, ◌<◌, List, length, map, Option, Some, None, IsSome, option_map, if◌then◌else◌}
+use Rattle.column_table.specs.Cells.{Cell, Seals, cell_tests}
 use Rattle.extended_plan.specs.declared.state.State.{State}
 use Rattle.extended_plan.specs.Gains.{one_profile, shown, two_profile}
 use Rattle.extended_plan.specs.Setting.{Setting, kind_at, op_at}
@@ -12,7 +13,6 @@ use Rattle.mq_base.specs.declared.plan.Step.TheVariants as step
 use Rattle.plan_algebra.specs.declared.kind.Kind.TheVariants as kind
 use Rattle.plan_algebra.specs.Tree.{apply_one}
 use Rattle.provider_engine.specs.declared.held.Held.{Held}
-use Rattle.provider_engine.specs.Cells.{Cell, Seals, cell_tests}
 use Rattle.provider_engine.specs.Held.{node_of, state_of}
 use Rattle.provider_engine.specs.Run.{opened_row, sealed_rows}
 use Rattle.relation_profile.specs.Profile.{Profile}

@@ -2,12 +2,12 @@
 -- may see in no form do not matter. docs/MODEL.md, "Encoded run", tells it in prose.
 use Rattle.std.specs.Prelude.{◌≡◌, ℕ, ◌+◌, ◌<◌, ◌^◌, List, [], ◌∷◌, ◌++◌, length, map, Some}
 use Rattle.std.specs.List.{AllByRecursion}
+use Rattle.column_table.specs.Cells.{Seals}
 use Rattle.extended_plan.specs.Setting.{Setting}
 use Rattle.extended_plan.specs.Term.{Term, Leaf, Enc, Dec, Send, Un, Bin, holder, node_of, spell}
 use Rattle.extended_plan.specs.Validity.{IsValid}
 use Rattle.plan_algebra.specs.Meaning.{node_rows}
 use Rattle.provider_engine.specs.Agreement.{Agree}
-use Rattle.provider_engine.specs.Cells.{Seals}
 use Rattle.provider_engine.specs.Decoding.{IsRun}
 use Rattle.provider_engine.specs.Opening.{seals_of}
 use Rattle.provider_engine.specs.Run.{decoded, enc_run}

@@ -1,6 +1,7 @@
 -- Which nodes of a plan have more rows than a table can have. docs/MODEL.md, "Encoded run", tells it in prose.
-use Rattle.std.specs.Prelude.{ℕ, ◌-◌, ◌^◌, ◌≤◌, ◌<◌, List, [], length}
+use Rattle.std.specs.Prelude.{ℕ, ◌≤◌, ◌<◌, List, [], length}
 use Rattle.std.specs.List.{AllByRecursion}
+use Rattle.column_table.specs.Tables.{most_rows}
 use Rattle.extended_plan.specs.Ready.{IsReady}
 use Rattle.extended_plan.specs.Setting.{Setting}
 use Rattle.mq_base.specs.declared.plan.PlanNode.{PlanNode}
@@ -13,10 +14,6 @@ use Rattle.row_algebra.specs.Values.{value_tests}
 -- the tree of a node
 abbrev pub tree_of_node : List PlanNode → ℕ → Tree
 tree_of_node nodes n = tree_at (trees_after [] nodes) n
-
--- the most rows that a table has
-abbrev pub most_rows : ℕ
-most_rows = 2 ^ 48 - 1
 
 -- a node is wide: it has more rows
 abbrev pub IsWide : Contents → List PlanNode → ℕ → Type 0

@@ -1,43 +1,24 @@
 //! The operations on two tables.
 
 ghost use Rattle.std.specs.Prelude.{◌≡◌, ◌<◌, List, IfErr, IfOk, Some, ℕ, length};
+ghost use Rattle.column_table.specs.declared.run_no.RunNo.TheVariants.{RowRange};
+ghost use Rattle.column_table.specs.Beside.{IsBeside};
+ghost use Rattle.column_table.specs.Cells.{Seals, cell_tests};
+ghost use Rattle.column_table.specs.Tables.{most_rows, rows_of};
 ghost use Rattle.extended_plan.specs.Job.{IsStateAt, setting_of};
 ghost use Rattle.extended_plan.specs.Setting.{op_at};
 ghost use Rattle.plan_algebra.specs.Tree.{apply_two};
-ghost use Rattle.provider_engine.specs.Cells.{Seals, cell_tests};
-ghost use Rattle.provider_engine.specs.declared.binary.RunNo.TheVariants as run_no;
-ghost use Rattle.provider_engine.specs.declared.binary.RunNo.TheVariants.{RowRange};
-ghost use Rattle.provider_engine.specs.Held.{node_of, rows_of, state_of, table_of};
+ghost use Rattle.provider_engine.specs.Held.{node_of, state_of, table_of};
 ghost use Rattle.provider_engine.specs.OfJob.{IsOfJob, IsOpenedBy};
 ghost use Rattle.provider_engine.specs.Steps.{IsRunnableOnTwo, state_after_two};
-ghost use Rattle.provider_engine.specs.Wide.{most_rows};
-ghost use Rattle.provider_engine.specs.inside.Pairs.{IsBeside, IsOnTables};
+ghost use Rattle.provider_engine.specs.inside.Operations.{IsOnTables};
 
 use crate::held::Held;
-use crate::join::join;
-use crate::product::product;
-use crate::table::Table;
+use column_table::{RunNo, Table, join, product};
 use extended_plan::{Job, State};
 use mq_base::{NodeId, PlanOp};
 use relation_profile::after_binary;
 use std::alloc::Global;
-
-/// Why the operation of a node was not done on two tables.
-#[derive(Clone, Copy, Debug, PartialEq, Eq)]
-pub enum RunNo {
-    /// The result would have more than 2^48 - 1 rows.
-    RowRange,
-    /// The allocator refused a request.
-    NoMemory,
-}
-
-impl From<mq_base::NoMemory> for RunNo {
-    ghost from_gives = { λ _ no. no ≡ run_no.NoMemory };
-
-    fn from(_refused: mq_base::NoMemory) -> RunNo {
-        RunNo::NoMemory
-    }
-}
 
 /// The table of a node on two tables, which one subject holds and on which the node is runnable. docs/MODEL.md, "Encoded run".
 ///

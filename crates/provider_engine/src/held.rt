@@ -1,8 +1,8 @@
 ghost use Rattle.std.specs.Prelude.{◌≡◌, ◌<◌, ℕ};
 ghost use Rattle.base_laws.specs.Sets.{has};
-ghost use Rattle.provider_engine.specs.Columns.{column_at, is_sealed, shown_columns};
+ghost use Rattle.column_table.specs.Columns.{column_at, is_sealed, shown_columns};
 
-use crate::table::Table;
+use column_table::Table;
 use extended_plan::State;
 use mq_base::{AttrId, NodeId, SubjectId};
 use relation_profile::View;
@@ -20,7 +20,7 @@ pub struct Held {
 
 impl Held {
     ghost use Rattle.std.specs.Prelude.{◌^◌, length, option_map};
-    ghost use Rattle.provider_engine.specs.Columns.{shown};
+    ghost use Rattle.column_table.specs.Columns.{shown};
     ghost use Rattle.provider_engine.specs.Held.{column_of, counts_of, node_of, state_of, table_of};
 
     /// The subject that holds it. It takes no memory.
@@ -45,7 +45,7 @@ impl Held {
     }
 
     /// The number of its rows. It takes no memory.
-    #[tactic(auto, using(crate::proofs::ColumnLaws::rows_length))]
+    #[tactic(auto, using(column_table::proofs::ColumnLaws::rows_length))]
     pub fn rows(&self) -> u64
         ensures number { result ≡ length (table_of self.now) }
         ensures few { result < 2 ^ 48 }

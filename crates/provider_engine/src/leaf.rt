@@ -3,6 +3,7 @@
 ghost use Rattle.std.specs.Prelude.{◌≡◌, ◌<◌, ℕ, IfErr, IfOk, IsSome, List, Some, false, length, map, option_map, slice_get, true};
 ghost use Rattle.std.specs.List.{All};
 ghost use Rattle.base_laws.specs.Sets.{has};
+ghost use Rattle.column_table.specs.Columns.{column_at, shown, shown_columns};
 ghost use Rattle.extended_plan.specs.Job.{IsStateAt, setting_of};
 ghost use Rattle.extended_plan.specs.Setting as setting;
 ghost use Rattle.extended_plan.specs.Setting.{leaf_of};
@@ -14,7 +15,6 @@ ghost use Rattle.mq_base.specs.Schema.{IsSchema};
 ghost use Rattle.mq_base.specs.Table.{HasForm};
 ghost use Rattle.mq_base.specs.Value.{IsCell};
 ghost use Rattle.mq_base.specs.declared.value.Value.{Value};
-ghost use Rattle.provider_engine.specs.Columns.{column_at, shown, shown_columns};
 ghost use Rattle.provider_engine.specs.Held.{node_of, state_of, table_of};
 ghost use Rattle.provider_engine.specs.OfJob.{IsOfJob, IsOpenedBy};
 ghost use Rattle.provider_engine.specs.Opening.{seals_of};
@@ -28,8 +28,7 @@ ghost use Rattle.row_algebra.specs.Rows.{cut};
 
 use crate::held::Held;
 use crate::seal::{key_of, lock_column};
-use crate::table::Table;
-use crate::take::no_columns;
+use column_table::{Table, no_columns};
 use extended_plan::{Job, State};
 use key_clusters::Keys;
 use mq_base::{

@@ -2,29 +2,17 @@
 //! that columns which a subject may see in no form do not matter to what it holds.
 #![tactic(auto)]
 
-mod beside;
 mod binary;
-mod cell;
-mod cells;
 mod choose;
-mod fold;
 mod group;
 mod held;
-mod join;
-mod keep;
-mod labels;
 mod laws;
 mod leaf;
-mod pairs;
-mod product;
-mod project;
 mod seal;
 mod state;
-mod table;
-mod take;
 mod unary;
 
-pub use binary::{RunNo, run_binary};
+pub use binary::run_binary;
 pub use held::Held;
 pub use laws::{
     hidden_columns_do_not_matter, hidden_columns_do_not_matter_to_holders, nodes_are_narrow,

@@ -2,11 +2,11 @@
 
 ghost use Rattle.std.specs.Prelude.{◌≡◌, ◌<◌, ◌^◌, IfErr, IfOk, List, OnErr, OnOk, Some, map, true};
 ghost use Rattle.base_laws.specs.Sets.{has};
+ghost use Rattle.column_table.specs.Columns.{Shown, column_at, shown, shown_columns};
 ghost use Rattle.extended_plan.specs.Job.{IsStateAt, setting_of};
 ghost use Rattle.mq_base.specs.declared.plan.Step.TheVariants as step;
 ghost use Rattle.mq_base.specs.declared.value.Value.{Value};
 ghost use Rattle.mq_base.specs.declared.value.ValueType.{ValueType};
-ghost use Rattle.provider_engine.specs.Columns.{Shown, column_at, shown, shown_columns};
 ghost use Rattle.provider_engine.specs.Held.{node_of, state_of, table_of};
 ghost use Rattle.provider_engine.specs.OfJob.{IsOfJob, IsOpenedBy};
 ghost use Rattle.provider_engine.specs.Opening.{listed_key, seals_of};
@@ -15,7 +15,7 @@ ghost use Rattle.provider_engine.specs.Steps.{IsRunnableOn, state_after};
 ghost use Rattle.provider_engine.specs.inside.Sealing.{ColumnOpens, IsLocked, IsLockedAt, IsOpenedAt, plain_column};
 
 use crate::held::Held;
-use crate::table::Table;
+use column_table::Table;
 use extended_plan::{Job, State};
 use key_clusters::Keys;
 use mq_base::{AttrId, AttrSet, NoMemory, Scheme};

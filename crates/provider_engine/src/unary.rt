@@ -1,21 +1,23 @@
 //! The steps on one table.
 
 ghost use Rattle.std.specs.Prelude.{◌≡◌, IfErr, IfOk, Some};
+ghost use Rattle.column_table.specs.Cells.{cell_tests};
+ghost use Rattle.column_table.specs.Columns.{shown_columns};
+ghost use Rattle.column_table.specs.Tables.{rows_of};
 ghost use Rattle.extended_plan.specs.Job.{setting_of};
 ghost use Rattle.extended_plan.specs.Setting.{op_at};
 ghost use Rattle.key_clusters.specs.declared.assigned.Clusters.{Clusters};
 ghost use Rattle.mq_base.specs.declared.plan.PlanOp.TheVariants as op;
 ghost use Rattle.mq_base.specs.declared.plan.Step.TheVariants as step;
 ghost use Rattle.plan_algebra.specs.Tree.{apply_one};
-ghost use Rattle.provider_engine.specs.Cells.{cell_tests};
-ghost use Rattle.provider_engine.specs.Columns.{shown_columns};
-ghost use Rattle.provider_engine.specs.Held.{node_of, rows_of, state_of, table_of};
+ghost use Rattle.provider_engine.specs.Held.{node_of, state_of, table_of};
 ghost use Rattle.provider_engine.specs.OfJob.{IsOfJob, IsOpenedBy};
 ghost use Rattle.provider_engine.specs.Opening.{seals_of};
 ghost use Rattle.provider_engine.specs.Steps.{IsRunnableOn, node_after, rows_after, state_after};
 ghost use Rattle.provider_engine.specs.Typed.{AreTyped};
 ghost use Rattle.provider_engine.specs.inside.Choosing.{AreSealedUnder, IsAtRows, IsSelection};
 
+use crate::choose::select;
 use crate::group::run_group;
 use crate::held::Held;
 use crate::seal::{run_dec, run_enc};
@@ -143,7 +145,7 @@ fn run_select(
     ensures opened { IfOk result (IsOpenedBy (setting_of job.now) keys.now.keys) }
     ensures back { IfErr result (λ failed. failed.0 ≡ input) }
 {
-    match input.table.select(alloc, keys, job.facts.operation(node)) {
+    match select(alloc, keys, job.facts.operation(node), &input.table) {
         Ok(table) => Ok(Held {
             node,
             state: state_on_one(job, node, &input),

@@ -1,5 +1,6 @@
 -- What the engine's steps ask, and what they tell of the tables that they make. Only the calls of a run speak of these.
 use Rattle.std.specs.Prelude.{◌≡◌, ℕ, List, map, Some, IsSome}
+use Rattle.column_table.specs.Cells.{cell_tests}
 use Rattle.extended_plan.specs.Setting.{Setting, leaf_of, op_at}
 use Rattle.extended_plan.specs.States.{state}
 use Rattle.extended_plan.specs.Term.{Leaf}
@@ -11,7 +12,6 @@ use Rattle.mq_base.specs.declared.plan.Step.{Step}
 use Rattle.mq_base.specs.declared.table.PlainTable.{PlainTable}
 use Rattle.plan_algebra.specs.Tree.{apply_two}
 use Rattle.provider_engine.specs.declared.held.Held.{Held}
-use Rattle.provider_engine.specs.Cells.{cell_tests}
 use Rattle.provider_engine.specs.Held.{node_of, state_of, table_of}
 use Rattle.provider_engine.specs.OfJob.{IsOfJob, IsOpenedBy}
 use Rattle.provider_engine.specs.Opening.{seals_of}

@@ -1,11 +1,11 @@
 -- The values that a table shows to who reads it, row by row. Only the calls of a run speak of these.
 use Rattle.std.specs.Prelude.{ℕ, List, filter_map, Option, Some, None, option_map, option_and_then, slice_get}
+use Rattle.column_table.specs.Cells.{Cell, Plain, Sealed}
+use Rattle.column_table.specs.Columns.{Shown, count_at}
 use Rattle.mq_base.specs.declared.query.Item.{Item}
 use Rattle.mq_base.specs.declared.query.Item.TheVariants as item
 use Rattle.mq_base.specs.declared.value.Value.{Value}
 use Rattle.provider_engine.specs.declared.held.Held.{Held}
-use Rattle.provider_engine.specs.Cells.{Cell, Plain, Sealed}
-use Rattle.provider_engine.specs.Columns.{Shown, count_at}
 use Rattle.provider_engine.specs.Held.{column_of, counts_of}
 use Rattle.row_algebra.specs.Rows.{RowOf}
 use Rattle.row_algebra.specs.Values.{value_count}

@@ -1,20 +1,17 @@
 -- Which rows a selection keeps, and what it asks of the columns. docs/MODEL.md, "Encoded run", tells it in prose.
-use Rattle.std.specs.Prelude.{◌≡◌, ℕ, ◌<◌, Bool, true, List, Option, Some, None, IfSome, filter, option_map}
-use Rattle.std.specs.List.{range_with_len}
+use Rattle.std.specs.Prelude.{◌≡◌, ℕ, ◌<◌, Bool, true, List, Option, IfSome, option_map}
+use Rattle.column_table.specs.declared.table.Table.{Table}
+use Rattle.column_table.specs.Cells.{Cell}
+use Rattle.column_table.specs.Columns.{Shown, column_at, columns_at, shown_columns}
 use Rattle.key_clusters.specs.declared.assigned.Clusters.{Clusters}
 use Rattle.key_clusters.specs.Keys.{scheme_at}
 use Rattle.mq_base.specs.declared.plan.PlanOp.{PlanOp}
 use Rattle.mq_base.specs.declared.plan.PlanOp.TheVariants as op
-use Rattle.mq_base.specs.declared.table.Scheme.{Scheme}
-use Rattle.mq_base.specs.declared.value.Value.{Value}
 use Rattle.mq_base.specs.Value.{type_of}
-use Rattle.provider_engine.specs.declared.table.Table.{Table}
-use Rattle.provider_engine.specs.Cells.{Cell, Plain, Sealed, Seals}
-use Rattle.provider_engine.specs.Columns.{Shown, column_at, columns_at, shown_columns}
 use Rattle.row_algebra.specs.Rows.{RowOf}
 use Rattle.row_algebra.specs.Tests.{Tests, passes_constant, passes_count, passes_pair}
 use Rattle.sealed_column.specs.Cells.{picked}
-use Rattle.sealed_column.specs.Seal.{IsValueOf, seal}
+use Rattle.sealed_column.specs.Seal.{IsValueOf}
 
 -- whether a selection keeps a row; other operations keep each
 abbrev pub keeps : Tests Cell → PlanOp → RowOf Cell → Bool
@@ -30,26 +27,11 @@ IsSelection (op.SelCount cmp n) = Unit {0}
 IsSelection (op.SelAttr a cmp b) = (a.0 < 64) × (b.0 < 64)
 IsSelection _ = ⊥
 
--- a constant as a cell beside those that a scheme sealed under a key, or none did
-abbrev pub constant_cell : List ℕ → Value → Option Scheme → Cell
-constant_cell key x None = Plain x
-constant_cell key x (Some scheme) = Sealed (seal scheme key 0 0 x)
-
--- the seals seal a constant of an attribute as its column's scheme does under a key, where one did
-abbrev pub IsSealedBeside : Seals → List ℕ → ℕ → Value → Option Shown → Type 0
-IsSealedBeside seals key a x column =
-    IfSome column (λ (c : Shown). IfSome c.scheme (λ scheme. seals.seal a 0 0 x ≡ seal scheme key 0 0 x))
-
 -- where a constant is compared, the column was sealed under the scheme of its attribute's cluster, where one did
 abbrev pub AreSealedUnder : Clusters → List (Option Shown) → PlanOp → Type 0
 AreSealedUnder clusters columns (op.SelConst a cmp x) =
     IfSome (column_at columns a.0) (λ (c : Shown). IfSome c.scheme (λ scheme. scheme ≡ scheme_at clusters a.0))
 AreSealedUnder clusters columns _ = Unit {0}
-
--- rows that some test chooses of so many, ascending
-pub record AreChosen (rows : ℕ) (kept : List ℕ) : Type 0 where
-  pub test : ℕ → Bool
-  pub are : kept ≡ filter test (range_with_len 0 rows)
 
 -- a table has the rows of another at listed places
 pub record IsAtRows (table made : Table) : Type 0 where

@@ -1,6 +1,7 @@
 -- The columns of a leaf: those that are sealed at rest, and those that are plain.
 use Rattle.std.specs.Prelude.{◌≡◌, ℕ, Bool, true, false, List, length, filter, take, Option, Some, None}
 use Rattle.base_laws.specs.Sets.{has}
+use Rattle.column_table.specs.Columns.{Shown}
 use Rattle.extended_plan.specs.Setting.{Setting}
 use Rattle.key_clusters.specs.Keys.{scheme_at}
 use Rattle.mq_base.specs.BoundQuery.{type_at}
@@ -9,7 +10,6 @@ use Rattle.mq_base.specs.declared.schema.Schema.{Schema}
 use Rattle.mq_base.specs.declared.table.PlainTable.{PlainTable}
 use Rattle.mq_base.specs.declared.value.Value.{Value}
 use Rattle.mq_base.specs.declared.value.ValueType.{ValueType}
-use Rattle.provider_engine.specs.Columns.{Shown}
 use Rattle.provider_engine.specs.Opening.{listed_key}
 use Rattle.provider_engine.specs.inside.Sealing.{IsLocked, plain_column}
 use Rattle.row_algebra.specs.Contents.{column_of, owns}

@@ -1,10 +1,10 @@
 -- What sealing and opening make of a column, and of the columns of a table.
 use Rattle.std.specs.Prelude.{◌≡◌, ℕ, ◌<◌, List, length, map, set, Option, Some, None}
+use Rattle.column_table.specs.Cells.{Plain, Sealed}
+use Rattle.column_table.specs.Columns.{Shown}
 use Rattle.mq_base.specs.declared.table.Scheme.{Scheme}
 use Rattle.mq_base.specs.declared.value.Value.{Value}
 use Rattle.mq_base.specs.declared.value.ValueType.{ValueType}
-use Rattle.provider_engine.specs.Cells.{Plain, Sealed}
-use Rattle.provider_engine.specs.Columns.{Shown}
 use Rattle.provider_engine.specs.OfJob.{StandsFor}
 use Rattle.sealed_column.specs.Cells.{OpenTo}
 use Rattle.sealed_column.specs.Seal.{sealed_from}

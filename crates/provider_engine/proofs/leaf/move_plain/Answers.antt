@@ -1,6 +1,6 @@
 use Rattle.std.proofs.Common.{◌∙◌, arith, ap, slice_get, sym}
 use Rattle.std.proofs.lemmas.Option.{slice_get_within}
-use Rattle.provider_engine.specs.Columns.{shown_columns}
+use Rattle.column_table.specs.Columns.{shown_columns}
 use Rattle.provider_engine.proofs.LeafRows.{moved_other, moved_own, own_column, own_values, place_after_other, place_after_own, place_few}
 use Rattle.provider_engine.proofs.leaf.move_plain.Goals as goal
 use Rattle.provider_engine.proofs.leaf.move_plain.Goals.{then-owns, else-owns}

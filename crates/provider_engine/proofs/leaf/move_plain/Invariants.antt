@@ -1,7 +1,7 @@
 -- The columns of the attributes so far have the table's values where that is asked, and what is left of the table is as it was.
 use Rattle.std.proofs.Common.{◌≡◌, ◌≤◌, ℕ, slice_get}
 use Rattle.base_laws.specs.Sets.{has}
-use Rattle.provider_engine.specs.Columns.{shown_columns}
+use Rattle.column_table.specs.Columns.{shown_columns}
 use Rattle.provider_engine.specs.inside.Leaves.{IsMovedAt, place_of}
 use Rattle.provider_engine.proofs.LeafRows.{IsFilledTo}
 use Rattle.provider_engine.proofs.leaf.move_plain.Given as goal

@@ -2,7 +2,7 @@ use Rattle.std.proofs.Common.{◌∙◌, ap, bit_and, map, sym}
 use Rattle.extended_plan.specs.declared.state.State.{State}
 use Rattle.extended_plan.specs.Job.{setting_of}
 use Rattle.extended_plan.proofs.JobLaws.{found_is}
-use Rattle.provider_engine.specs.Columns.{shown_columns}
+use Rattle.column_table.specs.Columns.{shown_columns}
 use Rattle.provider_engine.specs.Opening.{seals_of}
 use Rattle.provider_engine.specs.Run.{plain_row, sealed_rows}
 use Rattle.provider_engine.proofs.HeldLaws.{sealed_as_viewed}

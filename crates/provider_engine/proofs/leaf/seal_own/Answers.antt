@@ -1,7 +1,7 @@
 use Rattle.std.proofs.Common.{Some, sym, subst}
 use Rattle.extended_plan.specs.Job.{setting_of}
 use Rattle.key_clusters.specs.Keys.{scheme_at}
-use Rattle.provider_engine.specs.Columns.{shown}
+use Rattle.column_table.specs.Columns.{shown}
 use Rattle.provider_engine.specs.Opening.{listed_key}
 use Rattle.provider_engine.specs.inside.Leaves.{IsRestAt}
 use Rattle.provider_engine.proofs.LeafRows.{locked_by, own_values, own_within}

@@ -2,7 +2,7 @@
 use Rattle.std.proofs.Common.{◌≡◌, None, replicate}
 use Rattle.base_laws.specs.Sets.{has}
 use Rattle.extended_plan.specs.Job.{setting_of}
-use Rattle.provider_engine.specs.Columns.{shown_columns}
+use Rattle.column_table.specs.Columns.{shown_columns}
 use Rattle.provider_engine.specs.inside.Leaves.{IsRestAt, place_of}
 use Rattle.provider_engine.proofs.LeafRows.{IsFilledTo}
 use Rattle.provider_engine.proofs.leaf.seal_rest.Given as goal

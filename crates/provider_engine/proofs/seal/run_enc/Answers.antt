@@ -1,7 +1,7 @@
 use Rattle.std.proofs.Common.{◌<◌, ◌≡◌, ℕ, sym, subst}
 use Rattle.base_laws.specs.Sets.{has}
 use Rattle.extended_plan.specs.Job.{setting_of}
-use Rattle.provider_engine.specs.Columns.{column_at, is_sealed, shown_columns}
+use Rattle.column_table.specs.Columns.{column_at, is_sealed, shown_columns}
 use Rattle.provider_engine.proofs.HeldLaws.{sealed_as_viewed}
 use Rattle.provider_engine.proofs.SealRows.{table_sealed}
 use Rattle.provider_engine.proofs.seal.run_enc.Goals as goal

@@ -1,5 +1,5 @@
 use Rattle.provider_engine.proofs.SealRows.{sealed_is}
-use Rattle.provider_engine.specs.Columns.{shown}
+use Rattle.column_table.specs.Columns.{shown}
 use Rattle.provider_engine.proofs.seal.seal_column.Goals as goal
 
 pub returns-in-Ok-clause-locked : goal.returns-in-Ok-clause-locked

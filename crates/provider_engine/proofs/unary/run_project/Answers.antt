@@ -1,7 +1,7 @@
 use Rattle.std.proofs.Common.{◌∙◌, ap}
 use Rattle.std.specs.Prelude.{is_some}
 use Rattle.extended_plan.specs.Job.{setting_of}
-use Rattle.provider_engine.specs.Columns.{shown_columns}
+use Rattle.column_table.specs.Columns.{shown_columns}
 use Rattle.provider_engine.specs.Held.{node_of, state_of}
 use Rattle.provider_engine.proofs.HeldLaws.{before_group, one_at, sealed_as_viewed}
 use Rattle.provider_engine.proofs.OneLaws.{projected_columns, projected_counted, projected_opened}

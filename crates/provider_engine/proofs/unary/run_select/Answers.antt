@@ -1,5 +1,5 @@
 use Rattle.extended_plan.specs.Job.{setting_of}
-use Rattle.provider_engine.specs.Columns.{shown_columns}
+use Rattle.column_table.specs.Columns.{shown_columns}
 use Rattle.provider_engine.specs.Held.{node_of, state_of}
 use Rattle.provider_engine.proofs.HeldLaws.{before_group, columns_opened_at_rows, one_at, sealed_as_viewed}
 use Rattle.provider_engine.proofs.OneLaws.{selection_columns, selection_counted, taken_told}

@@ -1,0 +1,10 @@
+pub mod ColumnLaws
+pub mod ChoiceLaws
+pub mod CutLaws
+pub mod PairRows
+pub mod BesideRows
+pub mod JoinRows
+pub mod BareRows
+pub mod LabelRows
+pub mod FoldRows
+pub mod GroupRows

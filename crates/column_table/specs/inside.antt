@@ -1,0 +1,4 @@
+pub mod Choosing
+pub mod Labels
+pub mod Lent
+pub mod Pairs

@@ -1,6 +1,0 @@
--- There are as many labels as rows so far.
-use Rattle.std.proofs.Common.{◌≡◌, replicate}
-use Rattle.provider_engine.proofs.labels.one_label.Given as goal
-
-abbrev pub invariant-loop-row : goal.invariant-loop-row
-invariant-loop-row l = l.labels.items ≡ replicate l._row 0

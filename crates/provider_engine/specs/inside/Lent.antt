@@ -1,9 +1,0 @@
--- A cell that a column lends, as a cell. docs/MODEL.md, "Encoded run", tells it in prose.
-use Rattle.provider_engine.specs.declared.cell.CellRef.{CellRef}
-use Rattle.provider_engine.specs.declared.cell.CellRef.TheVariants as lent
-use Rattle.provider_engine.specs.Cells.{Cell, Plain, Sealed}
-
--- the cell that is lent
-abbrev pub cell_of : CellRef → Cell
-cell_of (lent.Plain v) = Plain v.now
-cell_of (lent.Sealed t) = Sealed t.now
