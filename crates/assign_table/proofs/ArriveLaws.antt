@@ -36,14 +36,14 @@ use Rattle.assign_table.specs.inside.Blocks.{IsAttainedAt, IsFrom, IsPlaceOf, ba
 use Rattle.assign_table.specs.inside.Cells.{IsListedOn}
 use Rattle.assign_table.specs.inside.Settling.{IsGainListed}
 use Rattle.assign_table.specs.inside.Sheet.{IsOffered, IsRefused, Sheet}
-use Rattle.assign_table.specs.inside.Spans.{IsSpan, first_of}
+use Rattle.extended_plan.specs.Spans.{IsSpan, first_of}
 use Rattle.assign_table.specs.inside.Ways.{IsAttained, settled_at}
 use Rattle.assign_table.proofs.ArenaLaws.{below-or-last}
 use Rattle.assign_table.proofs.GainLaws.{IsTold, told-gain}
 use Rattle.assign_table.proofs.OrderLaws.{offered-lower}
 use Rattle.assign_table.proofs.PlaceLaws.{starts_low}
 use Rattle.assign_table.proofs.SettleLaws.{cut-both, gathered-offered, gathered-refused}
-use Rattle.assign_table.proofs.SpanLaws.{first_low, span_at}
+use Rattle.extended_plan.proofs.SpanLaws.{first_low, span_at}
 use Rattle.assign_table.proofs.WayLaws.{bin_attained, leaf_attained, un_attained}
 
 -- a state that is attained at a node is one of the node, and its holder may hold the table

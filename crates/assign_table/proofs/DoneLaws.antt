@@ -17,12 +17,12 @@ use Rattle.assign_table.specs.inside.Blocks.{AreDone, IsArrived, IsAttainedAt, I
 use Rattle.assign_table.specs.inside.Cells.{IsListedOn}
 use Rattle.assign_table.specs.inside.Settling.{AreAttained, IsCrowded, IsDone, IsGainIn, IsGainListed, ShowsCrowdOver}
 use Rattle.assign_table.specs.inside.Sheet.{Sheet}
-use Rattle.assign_table.specs.inside.Spans.{first_of}
+use Rattle.extended_plan.specs.Spans.{first_of}
 use Rattle.assign_table.specs.inside.Ways.{settled_at}
 use Rattle.extended_plan.specs.States.{IsFirstTooMany}
 use Rattle.assign_table.proofs.CountLaws.{too_many}
 use Rattle.assign_table.proofs.GrowLaws.{done_more, each_weaker, place_before, place_inside, same_settled, same_start}
-use Rattle.assign_table.proofs.SpanLaws.{first_low}
+use Rattle.extended_plan.proofs.SpanLaws.{first_low}
 
 -- the setting, the arena and the starts at a node, and the block that was settled there
 module _ (gate : Gate) (ready : IsReady (gate_setting gate)) (is : IsGate gate) (block : List Settled) where

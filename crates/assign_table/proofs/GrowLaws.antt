@@ -13,10 +13,10 @@ use Rattle.extended_plan.specs.Setting.{Setting, kind_at, known_at, op_at}
 use Rattle.extended_plan.specs.States.{state_eq}
 use Rattle.assign_table.specs.declared.way.Settled.{Settled}
 use Rattle.assign_table.specs.inside.Blocks.{AreBlocks, AreDone, IsArrived, IsAttainedAt, IsBlock, IsGainSettled, IsPlaceOf, IsSettledAt, base_of, start_of}
-use Rattle.assign_table.specs.inside.Spans.{first_of}
+use Rattle.extended_plan.specs.Spans.{first_of}
 use Rattle.assign_table.specs.inside.Ways.{IsAttained, settled_at}
 use Rattle.assign_table.proofs.PlaceLaws.{starts_low}
-use Rattle.assign_table.proofs.SpanLaws.{first_low}
+use Rattle.extended_plan.proofs.SpanLaws.{first_low}
 use Rattle.assign_table.proofs.WayLaws.{attained_grown}
 
 -- what is said of each gain is said of it in other words

@@ -1,5 +1,4 @@
 pub mod WayLaws
-pub mod SpanLaws
 pub mod BlockLaws
 pub mod PlaceLaws
 pub mod QueueLaws

@@ -1,7 +1,6 @@
 pub mod Blocks
 pub mod Pairs
 pub mod Queue
-pub mod Spans
 pub mod Ways
 pub mod Cells
 pub mod Neighbours

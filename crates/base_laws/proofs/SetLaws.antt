@@ -1,5 +1,5 @@
 -- Laws of sets as numbers: membership in what is made of sets, and inclusion.
-use Rattle.std.proofs.Common.{◌≡◌, ◌≢◌, ℕ, zero, suc, ◌^◌, ◌+◌, ◌%◌, ◌<◌, ◌==◌, List, [], ◌∷◌, Bool, true, false, ◌||◌, ◌&&◌, not, min, max, bit_and, bit_or, filter, cond, ap, refl, sym, ◌∙◌, arith, ◌⊎◌, inl, inr}
+use Rattle.std.proofs.Common.{◌≡◌, ◌≢◌, ℕ, zero, suc, ◌^◌, ◌+◌, ◌%◌, ◌<◌, ◌==◌, List, [], ◌∷◌, Bool, true, false, ◌||◌, ◌&&◌, not, min, max, if◌then◌else◌, bit_and, bit_or, bit_xor, filter, cond, ap, subst, refl, sym, ◌∙◌, arith, ◌⊎◌, inl, inr}
 use Rattle.std.specs.Prelude.{IsTrue}
 use Rattle.std.specs.Int.{bit_at, trailing_zeros, w64}
 use Rattle.std.specs.List.{list_any, list_all, range_with_len, AllByRecursion}
@@ -186,3 +186,53 @@ with_members-each set (k ∷ rest) = (
     or_true : (b : Bool) → (b || true) ≡ true
     or_true true = refl
     or_true false = refl
+
+cross_test : (a b : ℕ) → a < 2 → b < 2 → ((a + b) % 2 == 1) ≡ (if b == 1 then not (a == 1) else (a == 1))
+cross_test a b small_a small_b = by_bits (bit_is a small_a) (bit_is b small_b)
+  where
+    by_bits : (a ≡ 0) ⊎ (a ≡ 1) → (b ≡ 0) ⊎ (b ≡ 1) → ((a + b) % 2 == 1) ≡ (if b == 1 then not (a == 1) else (a == 1))
+    by_bits (inl p) (inl q) = rw (p, q) refl
+    by_bits (inl p) (inr q) = rw (p, q) refl
+    by_bits (inr p) (inl q) = rw (p, q) refl
+    by_bits (inr p) (inr q) = rw (p, q) refl
+
+-- a member of one of two sets and not of both
+pub has-xor : (s t i : ℕ) → has (bit_xor s t) i ≡ (if has t i then not (has s i) else has s i)
+has-xor s t i = ap (λ k. k == 1) (bit_at_xor s t i) ∙ cross_test (bit_at s i) (bit_at t i) (bit_at-lt s i) (bit_at-lt t i)
+
+-- a set and that across a number, which has the number where it had not
+pub has-cross : (s a i : ℕ) → has (bit_xor s (2 ^ a)) i ≡ (if a == i then not (has s i) else has s i)
+has-cross s a i = has-xor s (2 ^ a) i ∙ ap (λ b. if b then not (has s i) else has s i) (has-single a i)
+
+-- a set with one member put in or taken out
+pub put-in : (s a : ℕ) → has s a ≡ false → with_member s a ≡ bit_xor s (2 ^ a)
+put-in s a out = same_members (with_member s a) (bit_xor s (2 ^ a)) (λ i. by_test i (a == i) refl)
+  where
+    or_none : (b : Bool) → (b || false) ≡ b
+    or_none true = refl
+    or_none false = refl
+
+    by_test : (i : ℕ) (b : Bool) → (a == i) ≡ b → has (with_member s a) i ≡ has (bit_xor s (2 ^ a)) i
+    by_test i true is =
+        let there : has s i ≡ false = subst (λ k. has s k ≡ false) (eqb-true a i is) out in
+        has-bit_or s (2 ^ a) i ∙ ap (λ b. has s i || b) (has-single a i ∙ is) ∙ ap (λ b. b || true) there
+        ∙ sym (has-cross s a i ∙ ap (λ b. if b then not (has s i) else has s i) is ∙ ap not there)
+    by_test i false is =
+        has-bit_or s (2 ^ a) i ∙ ap (λ b. has s i || b) (has-single a i ∙ is) ∙ or_none (has s i)
+        ∙ sym (has-cross s a i ∙ ap (λ b. if b then not (has s i) else has s i) is)
+
+pub taken-out : (s a : ℕ) → has s a ≡ true → without s (2 ^ a) ≡ bit_xor s (2 ^ a)
+taken-out s a inside = same_members (without s (2 ^ a)) (bit_xor s (2 ^ a)) (λ i. by_test i (a == i) refl)
+  where
+    and_all : (b : Bool) → (b && true) ≡ b
+    and_all true = refl
+    and_all false = refl
+
+    by_test : (i : ℕ) (b : Bool) → (a == i) ≡ b → has (without s (2 ^ a)) i ≡ has (bit_xor s (2 ^ a)) i
+    by_test i true is =
+        let there : has s i ≡ true = subst (λ k. has s k ≡ true) (eqb-true a i is) inside in
+        has-without s (2 ^ a) i ∙ ap (λ b. has s i && not b) (has-single a i ∙ is) ∙ ap (λ b. b && false) there
+        ∙ sym (has-cross s a i ∙ ap (λ b. if b then not (has s i) else has s i) is ∙ ap not there)
+    by_test i false is =
+        has-without s (2 ^ a) i ∙ ap (λ b. has s i && not b) (has-single a i ∙ is) ∙ and_all (has s i)
+        ∙ sym (has-cross s a i ∙ ap (λ b. if b then not (has s i) else has s i) is)

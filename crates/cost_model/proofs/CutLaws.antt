@@ -4,7 +4,7 @@ use Rattle.std.proofs.Math.Nat.{mul_assoc, mul-one, one-mul}
 use Rattle.base_laws.specs.Sets.{without, IsLeastMember}
 use Rattle.base_laws.proofs.NumberLaws.{cut_times}
 use Rattle.base_laws.proofs.WalkLaws.{members-empty, members-least}
-use Rattle.price_reader.specs.declared.prices.Prices.{Prices}
+use Rattle.policy_base.specs.declared.prices.Prices.{Prices}
 use Rattle.cost_model.specs.Estimates.{combinations, distinct_of, fit}
 
 -- what is left of a product over a set

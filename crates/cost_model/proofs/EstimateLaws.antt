@@ -12,7 +12,7 @@ use Rattle.plan_algebra.specs.declared.plan_facts.PlanFacts.{PlanFacts}
 use Rattle.plan_algebra.specs.Facts.{IsNodeAt, facts_at, node_at}
 use Rattle.plan_algebra.specs.Nodes.{leaf_node}
 use Rattle.plan_algebra.specs.Kinds.{kind_of}
-use Rattle.price_reader.specs.declared.prices.Prices.{Prices}
+use Rattle.policy_base.specs.declared.prices.Prices.{Prices}
 use Rattle.cost_model.specs.Estimates.{estimate_by, estimate_of, estimates_after, estimates_of, padded, two_rule, one_rule, fit}
 
 -- the estimate of a node looks at its operands alone

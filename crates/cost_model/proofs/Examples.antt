@@ -20,7 +20,7 @@ use Rattle.mq_base.specs.declared.value.ValueType.TheVariants as type
 use Rattle.plan_algebra.specs.Facts.{facts_of}
 use Rattle.plan_algebra.specs.Nodes.{nodes_of, subtrees}
 use Rattle.plan_algebra.specs.Tree.{Tree, Leaf, One, Two}
-use Rattle.price_reader.specs.declared.prices.Prices.{Prices}
+use Rattle.policy_base.specs.declared.prices.Prices.{Prices}
 use Rattle.relation_profile.specs.declared.view.View.{View}
 use Rattle.cost_model.specs.Costs.{Basis, cut, step_work}
 use Rattle.cost_model.specs.Estimates.{estimates_of, fit, padded, two_rule}

@@ -9,7 +9,7 @@ use Rattle.plan_algebra.specs.declared.plan_facts.PlanFacts.{PlanFacts}
 use Rattle.plan_algebra.specs.Facts.{IsNodeAt, IsOneOn, IsTwoOn, IsVisible, facts_at, node_at}
 use Rattle.plan_algebra.specs.Kinds.{kind_of}
 use Rattle.plan_algebra.proofs.VisibleLaws.{visible-used}
-use Rattle.price_reader.specs.declared.prices.Prices.{Prices}
+use Rattle.policy_base.specs.declared.prices.Prices.{Prices}
 use Rattle.cost_model.specs.Estimates.{HasDistinct, IsPricedFor, distinct_of}
 
 -- an attribute that a node has, has a distinct value

@@ -21,7 +21,7 @@ use Rattle.plan_algebra.specs.Kinds.{kind_of}
 use Rattle.relation_profile.specs.declared.view.View.{View}
 use Rattle.key_clusters.specs.declared.assigned.Clusters.{Clusters}
 use Rattle.key_clusters.specs.Keys.{scheme_at}
-use Rattle.price_reader.specs.declared.prices.Prices.{Prices}
+use Rattle.policy_base.specs.declared.prices.Prices.{Prices}
 use Rattle.cost_model.specs.declared.costs.CostBase.{CostBase}
 use Rattle.cost_model.specs.Sizes.{cell_bytes, cell_units}
 

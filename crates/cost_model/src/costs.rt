@@ -8,7 +8,7 @@ use crate::tables::{net_of, number_at, scheme_of, type_of};
 use key_clusters::Clusters;
 use mq_base::{AttrId, AttrSet, NodeId, PlanOp, Schema, Step, SubjectId};
 use plan_algebra::{Kind, PlanFacts};
-use price_reader::Prices;
+use policy_base::Prices;
 use relation_profile::View;
 
 /// What the costs of the steps of a plan are reckoned from. docs/MODEL.md, "Estimates and costs".

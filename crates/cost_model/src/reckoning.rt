@@ -7,7 +7,7 @@ use crate::rules::{leaf_rule, one_rule, two_rule};
 use crate::tables::number_at;
 use mq_base::NodeId;
 use plan_algebra::{Kind, PlanFacts};
-use price_reader::Prices;
+use policy_base::Prices;
 
 /// The estimates of the nodes of a plan, in post-order, each by those of its operands and the stated rows and distinct values.
 /// Each is cut at 2^64 - 1, and divisions round up. docs/MODEL.md, "Estimates and costs". Each attribute that the plan uses

@@ -4,7 +4,7 @@ ghost use Rattle.cost_model.specs.Estimates.{HasDistinct, combinations, distinct
 
 use crate::tables::number_at;
 use mq_base::{AttrId, AttrSet, CmpOp, PlanOp};
-use price_reader::Prices;
+use policy_base::Prices;
 
 // The stated distinct values of an attribute.
 fn distinct_of(prices: &Prices, a: AttrId) -> u64

@@ -4,7 +4,7 @@ ghost use Rattle.cost_model.specs.Costs.{net_of, type_at};
 
 use key_clusters::Clusters;
 use mq_base::{AttrId, Schema, Scheme, SubjectId, ValueType};
-use price_reader::Prices;
+use policy_base::Prices;
 
 // The number at a place, and 0 past the last.
 #[tactic(auto, using(crate::proofs::TableLaws::reads))]

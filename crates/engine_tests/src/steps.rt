@@ -1,7 +1,7 @@
 //! Single steps of the engine. Each asks first whether it may be taken.
 ghost use Rattle.std.specs.Prelude.{IfOk};
 ghost use Rattle.extended_plan.specs.Job.{setting_of};
-ghost use Rattle.policy_reader.specs.Accepted.{IsAccepted};
+ghost use Rattle.policy_base.specs.Accepted.{IsAccepted};
 ghost use Rattle.provider_engine.specs.OfJob.{IsOfJob, IsOpenedBy};
 ghost use Rattle.provider_engine.specs.Typed.{AreTyped};
 

@@ -1,18 +1,16 @@
 -- What is gained across an attribute: an encryption or a decryption of a table that its holder may hold is one of an attribute that the
 -- holder sees plain, and leads to the state across it.
-use Rattle.std.proofs.Common.{◌≡◌, ℕ, ◌+◌, ◌^◌, ◌%◌, ◌<◌, ◌==◌, ◌⊎◌, inl, inr, Bool, true, false, ◌&&◌, ◌||◌, not, Option, Some, None, if◌then◌else◌, bit_or, bit_xor, refl, sym, ◌∙◌, ap, subst, true≢false, arith}
+use Rattle.std.proofs.Common.{◌≡◌, ℕ, ◌^◌, ◌==◌, ◌⊎◌, inl, inr, Bool, true, false, ◌&&◌, ◌||◌, not, Option, Some, None, if◌then◌else◌, bit_or, bit_xor, refl, sym, ◌∙◌, ap, subst, true≢false, arith}
 use Rattle.std.specs.Prelude.{option_map}
-use Rattle.std.specs.Int.{bit_at}
 use Rattle.std.specs.Int.Bits.{xor_assoc, xor_self, xor_zero_r}
 use Rattle.std.proofs.lemmas.Bool.{eqb-true}
 use Rattle.std.proofs.lemmas.Nat.{xor_comm}
-use Rattle.std.proofs.lemmas.Nat.Bits.{bit_at-lt, bit_at_xor}
 use Rattle.base_laws.specs.Sets.{has, with_member, without, IsWithin}
 use Rattle.base_laws.proofs.BoolLaws.{both}
-use Rattle.base_laws.proofs.SetLaws.{has-bit_and, has-bit_or, has-single, has-without, same_members, test_from_within, within_from_test}
+use Rattle.base_laws.proofs.SetLaws.{has-bit_and, has-bit_or, has-cross, has-single, has-without, has-xor, put-in, taken-out, test_from_within, within_from_test}
 use Rattle.mq_base.specs.declared.ids.AttrId.{AttrId}
 use Rattle.cost_model.specs.Costs.{sealing}
-use Rattle.policy_reader.specs.Accepted.{plain_of, sealed_of}
+use Rattle.policy_base.specs.Accepted.{plain_of, sealed_of}
 use Rattle.relation_profile.specs.Profile.{Profile}
 use Rattle.relation_profile.specs.Runnable.{run_dec, run_enc}
 use Rattle.relation_profile.specs.View.{view_of}
@@ -26,60 +24,6 @@ use Rattle.extended_plan.specs.Setting.{Setting, known_at}
 use Rattle.extended_plan.specs.Validity.{may_hold}
 use Rattle.extended_plan.specs.inside.Ran.{at_holder}
 use Rattle.extended_plan.proofs.GainLaws.{held_parts, worked}
-
--- ---- sets that differ in one member
-
-bit_is : (b : ℕ) → b < 2 → (b ≡ 0) ⊎ (b ≡ 1)
-bit_is b small = grind arith
-
-xor_test : (a b : ℕ) → a < 2 → b < 2 → ((a + b) % 2 == 1) ≡ (if b == 1 then not (a == 1) else (a == 1))
-xor_test a b small_a small_b = by_bits (bit_is a small_a) (bit_is b small_b)
-  where
-    by_bits : (a ≡ 0) ⊎ (a ≡ 1) → (b ≡ 0) ⊎ (b ≡ 1) → ((a + b) % 2 == 1) ≡ (if b == 1 then not (a == 1) else (a == 1))
-    by_bits (inl p) (inl q) = rw (p, q) refl
-    by_bits (inl p) (inr q) = rw (p, q) refl
-    by_bits (inr p) (inl q) = rw (p, q) refl
-    by_bits (inr p) (inr q) = rw (p, q) refl
-
-pub has-xor : (s t i : ℕ) → has (bit_xor s t) i ≡ (if has t i then not (has s i) else has s i)
-has-xor s t i = ap (λ k. k == 1) (bit_at_xor s t i) ∙ xor_test (bit_at s i) (bit_at t i) (bit_at-lt s i) (bit_at-lt t i)
-
--- of the member itself, and of another number
-pub has-cross : (s a i : ℕ) → has (bit_xor s (2 ^ a)) i ≡ (if a == i then not (has s i) else has s i)
-has-cross s a i = has-xor s (2 ^ a) i ∙ ap (λ b. if b then not (has s i) else has s i) (has-single a i)
-
--- a set with one member put in or taken out
-put-in : (s a : ℕ) → has s a ≡ false → with_member s a ≡ bit_xor s (2 ^ a)
-put-in s a out = same_members (with_member s a) (bit_xor s (2 ^ a)) (λ i. by_test i (a == i) refl)
-  where
-    or_none : (b : Bool) → (b || false) ≡ b
-    or_none true = refl
-    or_none false = refl
-
-    by_test : (i : ℕ) (b : Bool) → (a == i) ≡ b → has (with_member s a) i ≡ has (bit_xor s (2 ^ a)) i
-    by_test i true is =
-        let there : has s i ≡ false = subst (λ k. has s k ≡ false) (eqb-true a i is) out in
-        has-bit_or s (2 ^ a) i ∙ ap (λ b. has s i || b) (has-single a i ∙ is) ∙ ap (λ b. b || true) there
-        ∙ sym (has-cross s a i ∙ ap (λ b. if b then not (has s i) else has s i) is ∙ ap not there)
-    by_test i false is =
-        has-bit_or s (2 ^ a) i ∙ ap (λ b. has s i || b) (has-single a i ∙ is) ∙ or_none (has s i)
-        ∙ sym (has-cross s a i ∙ ap (λ b. if b then not (has s i) else has s i) is)
-
-taken-out : (s a : ℕ) → has s a ≡ true → without s (2 ^ a) ≡ bit_xor s (2 ^ a)
-taken-out s a inside = same_members (without s (2 ^ a)) (bit_xor s (2 ^ a)) (λ i. by_test i (a == i) refl)
-  where
-    and_all : (b : Bool) → (b && true) ≡ b
-    and_all true = refl
-    and_all false = refl
-
-    by_test : (i : ℕ) (b : Bool) → (a == i) ≡ b → has (without s (2 ^ a)) i ≡ has (bit_xor s (2 ^ a)) i
-    by_test i true is =
-        let there : has s i ≡ true = subst (λ k. has s k ≡ true) (eqb-true a i is) inside in
-        has-without s (2 ^ a) i ∙ ap (λ b. has s i && not b) (has-single a i ∙ is) ∙ ap (λ b. b && false) there
-        ∙ sym (has-cross s a i ∙ ap (λ b. if b then not (has s i) else has s i) is ∙ ap not there)
-    by_test i false is =
-        has-without s (2 ^ a) i ∙ ap (λ b. has s i && not b) (has-single a i ∙ is) ∙ and_all (has s i)
-        ∙ sym (has-cross s a i ∙ ap (λ b. if b then not (has s i) else has s i) is)
 
 -- ---- the state across an attribute
 

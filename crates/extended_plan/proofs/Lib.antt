@@ -1,5 +1,6 @@
 mod Examples
 pub mod PlaceLaws
+pub mod SpanLaws
 pub mod ViewLaws
 pub mod TermLaws
 pub mod EntryLaws

@@ -14,7 +14,7 @@ use Rattle.mq_base.specs.declared.plan.Step.{Step}
 use Rattle.mq_base.specs.declared.plan.Step.TheVariants as step
 use Rattle.plan_algebra.specs.declared.kind.Kind.{Kind}
 use Rattle.plan_algebra.specs.declared.kind.Kind.TheVariants as kind
-use Rattle.policy_reader.specs.Accepted.{plain_of, sealed_of}
+use Rattle.policy_base.specs.Accepted.{plain_of, sealed_of}
 use Rattle.view_authority.proofs.BreachLaws.{exactly}
 use Rattle.extended_plan.specs.declared.state.PlanTotals.{PlanTotals}
 use Rattle.extended_plan.specs.declared.step_no.StepNo.{StepNo}

@@ -20,9 +20,9 @@ use Rattle.plan_algebra.specs.declared.plan_facts.PlanFacts.{PlanFacts}
 use Rattle.plan_algebra.specs.Facts.{node_at}
 use Rattle.plan_algebra.specs.Leaves.{leaf_table, leaf_tables}
 use Rattle.plan_algebra.specs.Nodes.{leaf_node}
-use Rattle.policy_reader.specs.Accepted.{IsAccepted}
-use Rattle.policy_reader.specs.declared.policy.Policy.{Policy}
-use Rattle.price_reader.specs.declared.prices.Prices.{Prices}
+use Rattle.policy_base.specs.Accepted.{IsAccepted}
+use Rattle.policy_base.specs.declared.policy.Policy.{Policy}
+use Rattle.policy_base.specs.declared.prices.Prices.{Prices}
 use Rattle.extended_plan.specs.Parts.{setting_by}
 use Rattle.extended_plan.specs.Ready.{IfBase, IsLeafOf, IsReady}
 use Rattle.extended_plan.specs.Setting.{Setting, is_base, op_at}

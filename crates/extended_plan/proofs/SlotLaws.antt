@@ -13,7 +13,7 @@ use Rattle.mq_base.specs.declared.ids.TableId.{TableId}
 use Rattle.mq_base.specs.declared.plan.Step.{Step}
 use Rattle.mq_base.specs.declared.plan.Step.TheVariants as step
 use Rattle.cost_model.specs.Costs.{cut, step_work}
-use Rattle.policy_reader.specs.Accepted.{plain_of, sealed_of}
+use Rattle.policy_base.specs.Accepted.{plain_of, sealed_of}
 use Rattle.relation_profile.specs.Profile.{Profile}
 use Rattle.relation_profile.specs.Runnable.{run_dec, run_enc, run_one, run_two, runs_one, runs_two}
 use Rattle.relation_profile.specs.Steps.{after_dec, after_enc, after_one, after_two}

@@ -12,7 +12,7 @@ use Rattle.mq_base.specs.declared.plan.Step.TheVariants as step
 use Rattle.cost_model.specs.Costs.{sealing, step_work}
 use Rattle.plan_algebra.specs.declared.kind.Kind.{Kind}
 use Rattle.plan_algebra.specs.declared.kind.Kind.TheVariants as kind
-use Rattle.policy_reader.specs.Accepted.{plain_of}
+use Rattle.policy_base.specs.Accepted.{plain_of}
 use Rattle.relation_profile.specs.Profile.{Profile}
 use Rattle.relation_profile.specs.Runnable.{run_dec, run_enc, run_one, run_two}
 use Rattle.relation_profile.specs.View.{profile_of, view_of}

@@ -8,8 +8,8 @@ use Rattle.mq_base.specs.declared.query.Query.{Query}
 use Rattle.cost_model.specs.Costs.{cut}
 use Rattle.plan_algebra.specs.declared.kind.Kind.{Kind}
 use Rattle.plan_algebra.specs.declared.kind.Kind.TheVariants as kind
-use Rattle.policy_reader.specs.declared.policy.Policy.{Policy}
-use Rattle.price_reader.specs.declared.prices.Prices.{Prices}
+use Rattle.policy_base.specs.declared.policy.Policy.{Policy}
+use Rattle.policy_base.specs.declared.prices.Prices.{Prices}
 use Rattle.relation_profile.specs.View.{IsView}
 use Rattle.extended_plan.specs.declared.job.Job.{Job}
 use Rattle.extended_plan.specs.declared.state.State.{State}

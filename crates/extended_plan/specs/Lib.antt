@@ -4,6 +4,7 @@ pub mod Validity
 pub mod States
 pub mod Gains
 pub mod Ready
+pub mod Spans
 pub mod PropLaws
 pub mod Parts
 pub mod Job

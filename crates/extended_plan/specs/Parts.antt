@@ -9,8 +9,8 @@ use Rattle.mq_base.specs.declared.query.Query.{Query}
 use Rattle.plan_algebra.specs.declared.plan_facts.PlanFacts.{PlanFacts}
 use Rattle.plan_algebra.specs.Nodes.{nodes_of}
 use Rattle.plan_algebra.specs.Plan.{plan_tree}
-use Rattle.policy_reader.specs.declared.policy.Policy.{Policy}
-use Rattle.price_reader.specs.declared.prices.Prices.{Prices}
+use Rattle.policy_base.specs.declared.policy.Policy.{Policy}
+use Rattle.policy_base.specs.declared.prices.Prices.{Prices}
 use Rattle.extended_plan.specs.Setting.{Setting}
 
 -- the setting of these parts

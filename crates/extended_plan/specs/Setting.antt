@@ -13,7 +13,7 @@ use Rattle.plan_algebra.specs.declared.facts.NodeFacts.{NodeFacts}
 use Rattle.plan_algebra.specs.declared.kind.Kind.{Kind}
 use Rattle.plan_algebra.specs.Facts.{facts_at, node_at}
 use Rattle.plan_algebra.specs.Kinds.{kind_of}
-use Rattle.policy_reader.specs.declared.policy.Policy.{Policy}
+use Rattle.policy_base.specs.declared.policy.Policy.{Policy}
 
 -- the policy, and the nodes, facts, estimates, clusters and prices
 pub record Setting : Type 0 where

@@ -4,7 +4,7 @@ use Rattle.std.specs.Prelude.{ℕ, suc, ◌==◌, Bool, false, List, [], ◌∷�
 use Rattle.mq_base.specs.declared.plan.Step.{Step}
 use Rattle.mq_base.specs.declared.plan.Step.TheVariants as step
 use Rattle.cost_model.specs.Costs.{cut}
-use Rattle.policy_reader.specs.Accepted.{plain_of, sealed_of}
+use Rattle.policy_base.specs.Accepted.{plain_of, sealed_of}
 use Rattle.view_authority.specs.Breaches.{breach}
 use Rattle.extended_plan.specs.declared.step_no.StepNo.{StepNo}
 use Rattle.extended_plan.specs.declared.step_no.StepWhy.{StepWhy}

@@ -6,7 +6,7 @@ use Rattle.base_laws.specs.Sets.{has}
 use Rattle.mq_base.specs.declared.ids.SubjectId.{SubjectId}
 use Rattle.mq_base.specs.declared.ids.TableId.{TableId}
 use Rattle.plan_algebra.specs.Facts.{leaf_set}
-use Rattle.policy_reader.specs.Accepted.{plain_of, sealed_of}
+use Rattle.policy_base.specs.Accepted.{plain_of, sealed_of}
 use Rattle.relation_profile.specs.Profile.{Profile}
 use Rattle.relation_profile.specs.Runnable.{runs_one, runs_two}
 use Rattle.relation_profile.specs.Steps.{after_dec, after_enc, after_one, after_two, leaf_profile}

@@ -9,8 +9,8 @@ use cost_model::{CostBase, Estimates, estimates};
 use key_clusters::{Clusters, clusters};
 use mq_base::{NoMemory, Query};
 use plan_algebra::PlanFacts;
-use policy_reader::Policy;
-use price_reader::Prices;
+use policy_base::Policy;
+use policy_base::Prices;
 use std::alloc::Global;
 
 /// A query over a policy with prices, its plan with the facts of each node, and what costs are reckoned from: all that extended
@@ -36,8 +36,8 @@ impl<'a> Job<'a> {
     ghost use Rattle.std.specs.Prelude.{◌≡◌, length, IfOk};
     ghost use Rattle.mq_base.specs.BoundQuery.{IsBound};
     ghost use Rattle.plan_algebra.specs.Meaning.{MeansQuery};
-    ghost use Rattle.policy_reader.specs.Accepted.{IsAccepted};
-    ghost use Rattle.price_reader.specs.Priced.{IsPriced};
+    ghost use Rattle.policy_base.specs.Accepted.{IsAccepted};
+    ghost use Rattle.policy_base.specs.Priced.{IsPriced};
     ghost use Rattle.extended_plan.specs.Job.{IsJobOf, setting_of};
 
     /// The job of a query that was bound to this policy's schema, by prices that were read for the policy: its plan, which means the

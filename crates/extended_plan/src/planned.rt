@@ -3,12 +3,12 @@ ghost use Rattle.mq_base.specs.BoundQuery.{IsBound};
 ghost use Rattle.plan_algebra.specs.Leaves.{leaf_tables};
 ghost use Rattle.plan_algebra.specs.Meaning.{MeansQuery};
 ghost use Rattle.plan_algebra.specs.Uses.{UsesOf};
-ghost use Rattle.policy_reader.specs.Accepted.{IsAccepted};
+ghost use Rattle.policy_base.specs.Accepted.{IsAccepted};
 ghost use Rattle.extended_plan.specs.Parts.{IsPlanOf};
 
 use mq_base::{NoMemory, Query};
 use plan_algebra::{PlanFacts, plan_of};
-use policy_reader::Policy;
+use policy_base::Policy;
 use std::alloc::Global;
 
 // The plan of a query with its facts.

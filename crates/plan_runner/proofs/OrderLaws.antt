@@ -4,8 +4,8 @@ use Rattle.std.specs.List.{cons_option, range_with_len}
 use Rattle.std.proofs.lemmas.List.{append-nil, get_or_push, length-append}
 use Rattle.std.proofs.lemmas.List.Quantifiers.{position-Some}
 use Rattle.std.proofs.lemmas.List.Elements.{filter_map-append}
-use Rattle.assign_table.proofs.SpanLaws.{first_low, span_at}
-use Rattle.assign_table.specs.inside.Spans.{IsSpan, first_of, firsts_of}
+use Rattle.extended_plan.proofs.SpanLaws.{first_low, span_at}
+use Rattle.extended_plan.specs.Spans.{IsSpan, first_of, firsts_of}
 use Rattle.extended_plan.proofs.PlaceLaws.{leaf_below, node_below, one_operand, two_operands}
 use Rattle.extended_plan.proofs.ViewLaws.{node_is}
 use Rattle.extended_plan.specs.Ready.{IsReady}

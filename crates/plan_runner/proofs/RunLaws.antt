@@ -9,7 +9,7 @@ use Rattle.key_clusters.specs.Keys.{key_at}
 use Rattle.key_clusters.specs.Laws.{IfPair, ShareKey}
 use Rattle.plan_algebra.specs.Facts.{node_at}
 use Rattle.plan_algebra.specs.Meaning.{MeansQuery}
-use Rattle.policy_reader.specs.Accepted.{IsAccepted}
+use Rattle.policy_base.specs.Accepted.{IsAccepted}
 use Rattle.extended_plan.proofs.ListLaws.{outcomes_exact}
 use Rattle.extended_plan.specs.declared.job.Job.{Job}
 use Rattle.extended_plan.specs.Job.{setting_of}

@@ -11,7 +11,7 @@ ghost use Rattle.plan_algebra.specs.Meaning.{MeansQuery};
 ghost use Rattle.plan_runner.specs.declared.stop.RunStop.TheVariants.{RowRange};
 ghost use Rattle.plan_runner.specs.inside.UnderWay.{IsRanTo, IsUnderWay};
 ghost use Rattle.plan_runner.specs.Running.{IsFirstWide, IsNarrow, IsSpelt};
-ghost use Rattle.policy_reader.specs.Accepted.{IsAccepted};
+ghost use Rattle.policy_base.specs.Accepted.{IsAccepted};
 ghost use Rattle.provider_engine.specs.Decoding.{IsRun};
 ghost use Rattle.row_algebra.specs.Contents.{Contents, contents_of};
 ghost use Rattle.row_algebra.specs.Meaning.{query_rows};

@@ -9,7 +9,7 @@ use cost_model::{CostBase, Estimates, estimates, step_cost};
 use key_clusters::clusters;
 use mq_base::{AttrSet, NodeId, Schema, Scheme, Step, SubjectId};
 use plan_algebra::PlanFacts;
-use price_reader::Prices;
+use policy_base::Prices;
 use relation_profile::View;
 use std::alloc::Global;
 use std::process::Abort;

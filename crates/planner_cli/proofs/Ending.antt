@@ -12,8 +12,8 @@ use Rattle.mq_base.specs.declared.query.Query.{Query}
 use Rattle.mq_base.specs.declared.table.PlainTable.{PlainTable}
 use Rattle.mq_base.specs.declared.value.Value.{Value}
 use Rattle.plan_runner.specs.Running.{IsFirstWide, IsNarrow}
-use Rattle.policy_reader.specs.declared.policy.Policy.{Policy}
-use Rattle.price_reader.specs.declared.prices.Prices.{Prices}
+use Rattle.policy_base.specs.declared.policy.Policy.{Policy}
+use Rattle.policy_base.specs.declared.prices.Prices.{Prices}
 use Rattle.row_algebra.specs.Contents.{contents_of}
 use Rattle.row_algebra.specs.Meaning.{query_rows}
 use Rattle.planner_cli.specs.declared.ends.End.{End}

@@ -3,7 +3,7 @@ use Rattle.std.proofs.Common.{◌≡◌, List, [], ◌∷◌, refl, false}
 use Rattle.serde_json.specs.Written.{has_float}
 use Rattle.mq_base.specs.declared.plan.Step.{Step}
 use Rattle.mq_base.specs.declared.plan.Step.TheVariants as step
-use Rattle.policy_reader.specs.declared.policy.Policy.{Policy}
+use Rattle.policy_base.specs.declared.policy.Policy.{Policy}
 use Rattle.planner_cli.specs.PlanLine.{step_data, steps_data}
 
 -- no step has a float

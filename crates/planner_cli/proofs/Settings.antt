@@ -25,8 +25,8 @@ use Rattle.plan_algebra.specs.declared.kind.Kind.TheVariants as kind
 use Rattle.plan_algebra.specs.Facts.{IsFacts, IsLeafAt, IsNodeAt, facts_at, leaf_facts, node_at, one_facts, two_facts}
 use Rattle.plan_algebra.specs.Kinds.{kind_of}
 use Rattle.provider_engine.specs.Wide.{IsWide}
-use Rattle.policy_reader.specs.declared.policy.Policy.{Policy}
-use Rattle.price_reader.specs.declared.prices.Prices.{Prices}
+use Rattle.policy_base.specs.declared.policy.Policy.{Policy}
+use Rattle.policy_base.specs.declared.prices.Prices.{Prices}
 use Rattle.row_algebra.specs.Contents.{contents_of}
 use Rattle.planner_cli.specs.declared.status.Status.{Status}
 use Rattle.planner_cli.specs.declared.status.Status.TheVariants as status

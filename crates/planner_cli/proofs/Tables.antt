@@ -4,7 +4,7 @@ use Rattle.std.proofs.lemmas.List.{map-append, take_more, take-append-drop}
 use Rattle.mq_base.specs.declared.ids.TableId.{TableId}
 use Rattle.mq_base.specs.declared.table.PlainTable.{PlainTable}
 use Rattle.outside_io.specs.Outside.{ShelfState, Follows}
-use Rattle.policy_reader.specs.declared.policy.Policy.{Policy}
+use Rattle.policy_base.specs.declared.policy.Policy.{Policy}
 use Rattle.planner_cli.specs.declared.load_no.LoadNo.{LoadNo}
 use Rattle.planner_cli.specs.declared.status.FileRole.{FileRole}
 use Rattle.planner_cli.specs.declared.status.FileRole.TheVariants as role

@@ -8,8 +8,8 @@ use Rattle.mq_base.specs.declared.query.Query.{Query}
 use Rattle.mq_base.specs.declared.table.PlainTable.{PlainTable}
 use Rattle.outside_io.specs.Outside.{ShelfState, Follows}
 use Rattle.outside_io.proofs.Following.{Follows-trans}
-use Rattle.policy_reader.specs.declared.policy.Policy.{Policy}
-use Rattle.price_reader.specs.declared.prices.Prices.{Prices}
+use Rattle.policy_base.specs.declared.policy.Policy.{Policy}
+use Rattle.policy_base.specs.declared.prices.Prices.{Prices}
 use Rattle.planner_cli.specs.declared.load_no.LoadNo.{LoadNo}
 use Rattle.planner_cli.specs.declared.status.FileRole.{FileRole}
 use Rattle.planner_cli.specs.declared.status.FileRole.TheVariants as role

@@ -9,9 +9,9 @@ use Rattle.mq_base.specs.declared.refusal.Refusal.{Refusal}
 use Rattle.mq_base.specs.declared.schema.Schema.{Schema}
 use Rattle.mq_base.specs.declared.table.PlainTable.{PlainTable}
 use Rattle.mq_base.specs.Refusal.{refusal}
-use Rattle.policy_reader.specs.declared.policy.Policy.{Policy}
+use Rattle.policy_base.specs.declared.policy.Policy.{Policy}
 use Rattle.policy_reader.specs.Outcome.{policy_outcome}
-use Rattle.price_reader.specs.declared.prices.Prices.{Prices}
+use Rattle.policy_base.specs.declared.prices.Prices.{Prices}
 use Rattle.price_reader.specs.Outcome.{price_outcome}
 use Rattle.query_bind.specs.Outcome.{bind_outcome}
 use Rattle.sql_lexer.specs.Codes.{bad_char}

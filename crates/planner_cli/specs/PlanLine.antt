@@ -5,8 +5,8 @@ use Rattle.serde_json.specs.View.{items_of}
 use Rattle.serde_json.specs.Written.{compact_text}
 use Rattle.mq_base.specs.declared.plan.Step.{Step}
 use Rattle.mq_base.specs.declared.plan.Step.TheVariants as step
-use Rattle.policy_reader.specs.declared.policy.Policy.{Policy}
-use Rattle.planner_cli.specs.Names.{attribute_name, subject_name, table_name}
+use Rattle.policy_base.specs.declared.policy.Policy.{Policy}
+use Rattle.policy_base.specs.Names.{attribute_name, subject_name, table_name}
 
 -- a step that names a table, an attribute or a subject: the word of the step and the name
 abbrev pub named_step : List ℕ → List ℕ → Data

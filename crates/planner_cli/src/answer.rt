@@ -1,11 +1,11 @@
 ghost use Rattle.std.specs.Prelude.{◌≡◌, ◌++◌, IfOk, OnOk};
-ghost use Rattle.policy_reader.specs.Accepted.{IsAccepted};
+ghost use Rattle.policy_base.specs.Accepted.{IsAccepted};
 ghost use Rattle.planner_cli.specs.Answer.{answer_text, sorted_rows};
 ghost use Rattle.planner_cli.specs.Names.{item_names};
 
 use crate::{csv_text, names};
 use mq_base::{Item, NoMemory, Seq, Value};
-use policy_reader::Policy;
+use policy_base::Policy;
 use std::alloc::Global;
 
 // Sorts rows by their values from the left.

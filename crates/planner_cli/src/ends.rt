@@ -6,7 +6,7 @@ ghost use Rattle.mq_base.specs.BoundQuery.{IsBound};
 ghost use Rattle.mq_base.specs.Table.{HasForm};
 ghost use Rattle.mq_base.specs.declared.table.PlainTable.{PlainTable};
 ghost use Rattle.plan_algebra.specs.Meaning.{MeansQuery};
-ghost use Rattle.policy_reader.specs.Accepted.{IsAccepted};
+ghost use Rattle.policy_base.specs.Accepted.{IsAccepted};
 ghost use Rattle.planner_cli.specs.Ends.{EndsUnder, RunEnds, Ends, HaveOneStatus};
 ghost use Rattle.planner_cli.specs.inside.Loading.{IsSoundRun, IsSound};
 

@@ -5,23 +5,24 @@ ghost use Rattle.mq_base.specs.BoundQuery.{IsBound};
 ghost use Rattle.mq_base.specs.Table.{HasForm};
 ghost use Rattle.mq_base.specs.declared.table.PlainTable.{PlainTable};
 ghost use Rattle.outside_io.specs.Outside.{IsHeld, Follows};
-ghost use Rattle.policy_reader.specs.Accepted.{IsAccepted};
-ghost use Rattle.price_reader.specs.Priced.{IsPriced};
+ghost use Rattle.policy_base.specs.Accepted.{IsAccepted};
+ghost use Rattle.policy_base.specs.Priced.{IsPriced};
 ghost use Rattle.planner_cli.specs.Commands.{command_in, run_in};
 ghost use Rattle.planner_cli.specs.Input.{most, policy_input, prices_input, query_input, table_input, tables_input, run_task, task_of};
 ghost use Rattle.planner_cli.specs.Names.{table_file};
 ghost use Rattle.planner_cli.specs.inside.Loading.{StopsReading, Loads, Loaded, IsSoundRun, IsSound};
 
 use crate::load_no::{LoadNo, judge, refused};
-use crate::names;
 use crate::query::read_bound;
 use crate::status::FileRole;
 use crate::task::{RunTask, Task};
 use crate::words::{Command, RunWords};
 use mq_base::{NoMemory, PlainTable, Query, Refusal, Seq, TableId};
 use outside_io::{Shelf, ShelfNo};
-use policy_reader::{Policy, read_policy};
-use price_reader::{Prices, read_prices};
+use policy_base::Policy;
+use policy_reader::read_policy;
+use policy_base::Prices;
+use price_reader::read_prices;
 use std::alloc::Global;
 use table_reader::read_table;
 
@@ -105,7 +106,7 @@ fn table_file_name(alloc: Global, policy: &Policy, t: TableId) -> Result<String,
     requires { IsAccepted policy.now }
     ensures { IfOk result (λ name. string_bytes name ≡ table_file policy.now t) }
 {
-    let mut name = String::from_str(alloc, names::table(policy, t))?;
+    let mut name = String::from_str(alloc, policy.table_name(t))?;
     name.push_str(".csv")?;
     Ok(name)
 }

@@ -2,12 +2,11 @@ ghost use Rattle.std.specs.Prelude.{◌≡◌, IfOk};
 ghost use Rattle.std.specs.String.{string_bytes};
 ghost use Rattle.serde_json.specs.View.{view};
 ghost use Rattle.serde_json.specs.Written.{compact_text};
-ghost use Rattle.policy_reader.specs.Accepted.{IsAccepted};
+ghost use Rattle.policy_base.specs.Accepted.{IsAccepted};
 ghost use Rattle.planner_cli.specs.PlanLine.{named_step, node_step, plan_line, step_data, steps_data};
 
-use crate::names;
 use mq_base::{NoMemory, NodeId, Step};
-use policy_reader::Policy;
+use policy_base::Policy;
 use serde_json::{Value, json};
 use std::alloc::{AllocError, Global};
 
@@ -31,10 +30,10 @@ fn step(alloc: Global, policy: &Policy, step: Step) -> Result<Value, AllocError>
     ensures { IfOk result (λ value. view value ≡ step_data policy.now step) }
 {
     match step {
-        Step::Base(t) => named(alloc, "base", names::table(policy, t)),
-        Step::Enc(a) => named(alloc, "enc", names::attribute(policy, a)),
-        Step::Dec(a) => named(alloc, "dec", names::attribute(policy, a)),
-        Step::Send(s) => named(alloc, "send", names::subject(policy, s)),
+        Step::Base(t) => named(alloc, "base", policy.table_name(t)),
+        Step::Enc(a) => named(alloc, "enc", policy.attribute_name(a)),
+        Step::Dec(a) => named(alloc, "dec", policy.attribute_name(a)),
+        Step::Send(s) => named(alloc, "send", policy.subject_name(s)),
         Step::Un(n) => numbered(alloc, "un", n),
         Step::Bin(n) => numbered(alloc, "bin", n),
     }

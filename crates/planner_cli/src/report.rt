@@ -1,6 +1,6 @@
 ghost use Rattle.std.specs.Prelude.{◌≡◌, ◌∷◌, ◌++◌, [], codes, IfOk};
 ghost use Rattle.std.specs.String.{string_bytes};
-ghost use Rattle.policy_reader.specs.Accepted.{IsAccepted};
+ghost use Rattle.policy_base.specs.Accepted.{IsAccepted};
 ghost use Rattle.planner_cli.specs.Answer.{answer_under};
 ghost use Rattle.planner_cli.specs.Names.{item_names};
 ghost use Rattle.planner_cli.specs.PlanLine.{plan_line};
@@ -8,7 +8,7 @@ ghost use Rattle.planner_cli.specs.Report.{cost_line, none_report};
 
 use crate::{answer, plan_line};
 use mq_base::{Item, NoMemory, Seq, Step, Value};
-use policy_reader::Policy;
+use policy_base::Policy;
 use std::alloc::Global;
 
 // The cost line of a report.

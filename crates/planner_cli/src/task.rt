@@ -1,6 +1,6 @@
 use mq_base::{PlainTable, Query, Seq};
-use policy_reader::Policy;
-use price_reader::Prices;
+use policy_base::Policy;
+use policy_base::Prices;
 
 // What the accepted files of a command stand for.
 #[derive(Drop)]

@@ -20,7 +20,8 @@ use Rattle.policy_reader.specs.Faults.{fault, over, limit_fault, names_fault, su
 use Rattle.policy_reader.specs.Rules.{rule_fault, first_fault}
 use Rattle.policy_reader.specs.Outcome.{subject_id, tables_from, policy_value}
 use Rattle.policy_reader.specs.Grants.{all_plain, all_sealed}
-use Rattle.policy_reader.specs.Accepted.{IsAccepted, IsGranted, IsStoredByOwners}
+use Rattle.policy_base.specs.Accepted.{IsAccepted}
+use Rattle.policy_reader.specs.Granted.{IsGranted, IsStoredByOwners}
 use Rattle.policy_reader.proofs.RuleLaws.{any-position}
 use Rattle.policy_reader.proofs.NameLaws.{subjects_are_text, tables_are_text, subjects_differ}
 use Rattle.policy_reader.proofs.PlaceLaws.{names_from, owners_are, tables_differ, attributes_differ, attributes_are_text}

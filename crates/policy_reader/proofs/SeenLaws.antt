@@ -21,7 +21,7 @@ use Rattle.policy_reader.specs.declared.raw.RawTable.{RawTable}
 use Rattle.policy_reader.specs.declared.raw.RawRule.{RawRule}
 use Rattle.policy_reader.specs.declared.refusal.PolicyCode.{PolicyCode}
 use Rattle.policy_reader.specs.declared.refusal.PolicyCode.TheVariants.{UnknownSubject, RuleForOwner, RepeatedRule, Overlap}
-use Rattle.policy_reader.specs.Accepted.{set_at}
+use Rattle.policy_base.specs.Accepted.{set_at}
 use Rattle.policy_reader.specs.Faults.{fault, is_column, is_table, column_count, table_names_fault}
 use Rattle.policy_reader.specs.Grants.{first_id, ids, single, named, named_at, listed, said, everything, nothing, rule_for, table_grant, grant, all_plain, all_sealed, set_of}
 use Rattle.policy_reader.specs.Names.{any_subject, is_one_of}

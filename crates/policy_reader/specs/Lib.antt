@@ -1,5 +1,5 @@
 pub mod Outcome
-pub mod Accepted
+pub mod Granted
 pub mod Codes
 pub mod Grants
 pub mod Rules

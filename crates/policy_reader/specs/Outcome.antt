@@ -8,7 +8,7 @@ use Rattle.mq_base.specs.declared.schema.AttrInfo.{AttrInfo}
 use Rattle.mq_base.specs.declared.schema.TableInfo.{TableInfo}
 use Rattle.mq_base.specs.declared.table.Scheme.TheVariants as scheme
 use Rattle.toml_tree.specs.Outcome.{file_outcome}
-use Rattle.policy_reader.specs.declared.policy.Policy.{Policy}
+use Rattle.policy_base.specs.declared.policy.Policy.{Policy}
 use Rattle.policy_reader.specs.declared.raw.RawColumn.{RawColumn}
 use Rattle.policy_reader.specs.declared.raw.RawTable.{RawTable}
 use Rattle.policy_reader.specs.declared.raw.RawPolicy.{RawPolicy}

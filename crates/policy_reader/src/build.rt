@@ -5,11 +5,11 @@ ghost use Rattle.policy_reader.specs.inside.Anyone.{any_grant};
 ghost use Rattle.policy_reader.specs.Outcome.{subject_id, tables_from, column_info, columns_from, sixteen, policy_value};
 
 use crate::grants::{Grant, all_granted, any_grants, ids};
-use crate::policy::Policy;
 use crate::raw::{RawColumn, RawPolicy, RawRule, RawTable};
 use mq_base::{
     AttrInfo, AttrSet, NoMemory, Schema, Scheme, Seq, SubjectId, TableId, TableInfo, Text,
 };
+use policy_base::Policy;
 use std::alloc::Global;
 
 /// The policy that the lists stand for.

@@ -7,13 +7,11 @@ mod check;
 mod fault;
 mod grants;
 mod names;
-mod policy;
 mod raw;
 mod read;
 mod refusal;
 mod rules;
 mod shape;
 
-pub use policy::Policy;
 pub use read::read_policy;
 pub use refusal::{PolicyCode, PolicyNo};

@@ -1,7 +1,8 @@
 ghost use Rattle.std.specs.Prelude.{◌≡◌, IfOk};
 ghost use Rattle.mq_base.specs.Refusal.{Answers};
 ghost use Rattle.base_laws.specs.Firsts.{judged};
-ghost use Rattle.policy_reader.specs.Accepted.{IsAccepted, IsGranted, IsStoredByOwners, SeesAsFiled};
+ghost use Rattle.policy_base.specs.Accepted.{IsAccepted};
+ghost use Rattle.policy_reader.specs.Granted.{IsGranted, IsStoredByOwners, SeesAsFiled};
 ghost use Rattle.policy_reader.specs.Codes.{told};
 ghost use Rattle.policy_reader.specs.Outcome.{policy_outcome, policy_value};
 ghost use Rattle.policy_reader.specs.Rules.{first_fault};
@@ -10,11 +11,11 @@ ghost use Rattle.policy_reader.specs.inside.Checks.{fault_of};
 use crate::build::build;
 use crate::check::{check_limits, check_names, check_owners, check_user};
 use crate::fault::Fault;
-use crate::policy::Policy;
 use crate::raw::RawPolicy;
 use crate::refusal::PolicyNo;
 use crate::rules::check_rules;
 use mq_base::Refusing;
+use policy_base::Policy;
 use std::alloc::Global;
 use toml_tree::read_document;
 

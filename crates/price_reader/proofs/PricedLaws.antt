@@ -18,9 +18,9 @@ use Rattle.price_reader.specs.declared.refusal.PriceCode.{PriceCode}
 use Rattle.price_reader.specs.declared.refusal.PriceCode.TheVariants.{UnknownName, OutOfRange, Missing}
 use Rattle.price_reader.specs.Faults.{fault, is_out, is_entry, entry_fault, missing_fault, section_fault, net_fault, links_fault, sections_fault}
 use Rattle.price_reader.specs.Outcome.{kept, number_for, numbers, price, prices_from, net_prices, sections_value}
-use Rattle.price_reader.specs.Priced.{IsPriced}
+use Rattle.policy_base.specs.Priced.{IsPriced}
 use Rattle.price_reader.specs.inside.Checks.{Fits64, AllFit64}
-use Rattle.price_reader.specs.declared.prices.Prices.{Prices}
+use Rattle.policy_base.specs.declared.prices.Prices.{Prices}
 
 -- what stands at a place of a padded list
 padded_at : {A B : Type 0} (n : ℕ) (past : B) (value : A → B) (xs : List A) (k : ℕ) (x : A) (d : B) → slice_get xs k ≡ Some x

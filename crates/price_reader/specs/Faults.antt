@@ -6,8 +6,8 @@ use Rattle.std.specs.Option.{option_map_or, option_or}
 use Rattle.base_laws.specs.Firsts.{first_at}
 use Rattle.mq_base.specs.declared.refusal.Refusal.{Refusal}
 use Rattle.mq_base.specs.Refusal.{refusal}
-use Rattle.policy_reader.specs.declared.policy.Policy.{Policy}
-use Rattle.policy_reader.specs.Accepted.{table_names, attribute_names}
+use Rattle.policy_base.specs.declared.policy.Policy.{Policy}
+use Rattle.policy_base.specs.Accepted.{table_names, attribute_names}
 use Rattle.policy_reader.specs.Faults.{test_at}
 use Rattle.policy_reader.specs.Names.{is_one_of}
 use Rattle.price_reader.specs.declared.raw.Entry.{Entry}

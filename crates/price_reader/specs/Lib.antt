@@ -1,5 +1,4 @@
 pub mod Outcome
-pub mod Priced
 pub mod Codes
 pub mod Faults
 pub mod Shape

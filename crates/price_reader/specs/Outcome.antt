@@ -4,9 +4,9 @@ use Rattle.std.specs.Prelude.{ℕ, ℤ, ◌-◌, List, ◌++◌, length, map, re
 use Rattle.std.specs.Option.{option_map_or}
 use Rattle.mq_base.specs.declared.refusal.Refusal.{Refusal}
 use Rattle.toml_tree.specs.Outcome.{file_outcome}
-use Rattle.policy_reader.specs.declared.policy.Policy.{Policy}
-use Rattle.policy_reader.specs.Accepted.{table_names, attribute_names}
-use Rattle.price_reader.specs.declared.prices.Prices.{Prices}
+use Rattle.policy_base.specs.declared.policy.Policy.{Policy}
+use Rattle.policy_base.specs.Accepted.{table_names, attribute_names}
+use Rattle.policy_base.specs.declared.prices.Prices.{Prices}
 use Rattle.price_reader.specs.declared.raw.Entry.{Entry}
 use Rattle.price_reader.specs.declared.raw.Link.{Link}
 use Rattle.price_reader.specs.declared.raw.RawPrices.{RawPrices}

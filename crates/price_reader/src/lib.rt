@@ -6,12 +6,10 @@
 mod build;
 mod check;
 mod fault;
-mod prices;
 mod raw;
 mod read;
 mod refusal;
 mod shape;
 
-pub use prices::Prices;
 pub use read::read_prices;
 pub use refusal::{PriceCode, PriceNo};

@@ -1,21 +1,20 @@
 ghost use Rattle.std.specs.Prelude.{◌≡◌, ◌≤◌, IfOk, length, map};
 ghost use Rattle.mq_base.specs.Refusal.{Answers};
 ghost use Rattle.base_laws.specs.Firsts.{judged};
-ghost use Rattle.policy_reader.specs.Accepted.{IsAccepted};
+ghost use Rattle.policy_base.specs.Accepted.{IsAccepted};
 ghost use Rattle.price_reader.specs.Codes.{told};
 ghost use Rattle.price_reader.specs.Faults.{first_fault, sections_fault};
 ghost use Rattle.price_reader.specs.Outcome.{price_outcome, prices_value, sections_value};
-ghost use Rattle.price_reader.specs.Priced.{IsPriced};
+ghost use Rattle.policy_base.specs.Priced.{IsPriced};
 ghost use Rattle.price_reader.specs.inside.Checks.{fault_of, Fits64, AllFit64};
 
 use crate::build::{net_prices, numbers};
 use crate::check::{check_links, check_net, check_section};
 use crate::fault::Fault;
-use crate::prices::Prices;
 use crate::raw::RawPrices;
 use crate::refusal::PriceNo;
 use mq_base::{AttrInfo, NoMemory, Refusing, Seq, TableInfo, Text};
-use policy_reader::Policy;
+use policy_base::{Policy, Prices};
 use std::alloc::Global;
 use toml_tree::read_document;
 

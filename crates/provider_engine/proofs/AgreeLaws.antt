@@ -21,7 +21,7 @@ use Rattle.mq_base.specs.Nodes.{aggregated}
 use Rattle.mq_base.specs.Value.{IsCell}
 use Rattle.plan_algebra.specs.Facts.{group_set}
 use Rattle.plan_algebra.specs.Tree.{apply_one, apply_two}
-use Rattle.policy_reader.specs.Accepted.{plain_of, sealed_of}
+use Rattle.policy_base.specs.Accepted.{plain_of, sealed_of}
 use Rattle.provider_engine.proofs.FoldLaws.{beside_leads}
 use Rattle.provider_engine.proofs.ImpliedLaws.{both_shows_left, both_shows_right, dec_implied, dec_shows, enc_implied, enc_shows, equated_tells, implied, imply_tells, leaf_shows, left_keeps, one_keeps, pair_first, pair_second, project_shows, right_keeps, stands_in, visible}
 use Rattle.provider_engine.proofs.OrLaws.{either, or_first, or_second}

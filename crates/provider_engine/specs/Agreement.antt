@@ -8,7 +8,7 @@ use Rattle.extended_plan.specs.Validity.{StandsAt}
 use Rattle.mq_base.specs.declared.ids.SubjectId.{SubjectId}
 use Rattle.mq_base.specs.declared.ids.TableId.{TableId}
 use Rattle.mq_base.specs.declared.value.Value.{Value}
-use Rattle.policy_reader.specs.Accepted.{plain_of, sealed_of}
+use Rattle.policy_base.specs.Accepted.{plain_of, sealed_of}
 use Rattle.provider_engine.specs.Run.{enc_run}
 use Rattle.row_algebra.specs.Contents.{Contents, HaveForm}
 use Rattle.row_algebra.specs.Likeness.{Beside}

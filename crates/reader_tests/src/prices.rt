@@ -1,10 +1,11 @@
 //! The refusals of price files with their places, and the prices of accepted ones. The expected values are worked out by
 //! hand from docs/FORMATS.md, "Price file".
 ghost use Rattle.std.specs.Prelude.{IfOk};
-ghost use Rattle.policy_reader.specs.Accepted.{IsAccepted};
+ghost use Rattle.policy_base.specs.Accepted.{IsAccepted};
 
 use crate::refusals::{ACCEPTED, Places, places_of};
-use policy_reader::{Policy, read_policy};
+use policy_base::Policy;
+use policy_reader::read_policy;
 use price_reader::read_prices;
 use std::alloc::{AllocError, Global};
 use std::process::Abort;

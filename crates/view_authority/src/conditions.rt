@@ -1,7 +1,7 @@
 ghost use Rattle.std.specs.Prelude.{◌≡◌, ◌↔◌, ◌<◌, ℕ, true, false, length};
 ghost use Rattle.base_laws.specs.Firsts.{judged};
 ghost use Rattle.base_laws.specs.Sets as sets;
-ghost use Rattle.policy_reader.specs.Accepted.{plain_of, sealed_of};
+ghost use Rattle.policy_base.specs.Accepted.{plain_of, sealed_of};
 ghost use Rattle.relation_profile.specs.Nodes.{profile_at};
 ghost use Rattle.relation_profile.specs.Profile.{Profile};
 ghost use Rattle.relation_profile.specs.View.{profile_of};
@@ -11,7 +11,7 @@ ghost use Rattle.view_authority.specs.Breaches as breaches;
 use crate::breach::Breach;
 use mq_base::{AttrId, AttrSet, NodeId, SubjectId};
 use plan_algebra::PlanFacts;
-use policy_reader::Policy;
+use policy_base::Policy;
 use relation_profile::View;
 
 /// Whether a subject is authorised for the table that a view of a node stands for: `Ok` exactly where the three conditions

@@ -8,7 +8,7 @@ use Rattle.cost_model.specs.Costs.{cut}
 use Rattle.plan_algebra.specs.declared.kind.Kind.{Kind}
 use Rattle.plan_algebra.specs.declared.kind.Kind.TheVariants as kind
 use Rattle.assign_table.specs.declared.way.Settled.{Settled}
-use Rattle.assign_table.specs.inside.Spans.{first_of}
+use Rattle.extended_plan.specs.Spans.{first_of}
 use Rattle.assign_table.specs.inside.Ways.{IsAttained, settled_at}
 use Rattle.extended_plan.specs.declared.state.Entry.{Entry}
 use Rattle.extended_plan.specs.declared.state.State.{State}

@@ -7,7 +7,7 @@ use Rattle.mq_base.specs.declared.ids.TableId.{TableId}
 use Rattle.mq_base.specs.declared.plan.Step.{Step}
 use Rattle.mq_base.specs.declared.plan.Step.TheVariants as step
 use Rattle.cost_model.specs.Costs.{cut, step_work}
-use Rattle.policy_reader.specs.Accepted.{plain_of, sealed_of}
+use Rattle.policy_base.specs.Accepted.{plain_of, sealed_of}
 use Rattle.view_authority.specs.Breaches.{breach}
 use Rattle.extended_plan.specs.declared.stack.Slot.{Slot}
 use Rattle.extended_plan.specs.declared.stack.StepStack.{StepStack}

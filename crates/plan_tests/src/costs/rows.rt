@@ -1,6 +1,6 @@
 use super::{estimated, padded, prices};
 use crate::told::{facts_of, schema};
-use price_reader::Prices;
+use policy_base::Prices;
 use std::alloc::Global;
 use std::process::Abort;
 use std::test::Fail;

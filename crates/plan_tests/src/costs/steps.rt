@@ -1,7 +1,7 @@
 use super::{Row, cost, prices};
 use crate::told::schema;
 use mq_base::{AttrId, NodeId, Step, SubjectId, TableId};
-use price_reader::Prices;
+use policy_base::Prices;
 use std::alloc::Global;
 use std::process::Abort;
 use std::test::Fail;

@@ -7,8 +7,8 @@ use Rattle.mq_base.specs.BoundQuery.{AreDistinct, IsBound}
 use Rattle.mq_base.specs.Refusal.{refusal}
 use Rattle.mq_base.specs.Table.{HasForm}
 use Rattle.outside_io.specs.Outside.{Files, ShelfState, IsHeld, IsAbsent, TakesWithin, Rose}
-use Rattle.policy_reader.specs.Accepted.{IsAccepted}
-use Rattle.price_reader.specs.Priced.{IsPriced}
+use Rattle.policy_base.specs.Accepted.{IsAccepted}
+use Rattle.policy_base.specs.Priced.{IsPriced}
 use Rattle.planner_cli.specs.declared.load_no.LoadNo.{LoadNo}
 use Rattle.planner_cli.specs.declared.load_no.LoadNo.TheVariants.{Refused, Failed, NoMemory}
 use Rattle.planner_cli.specs.declared.status.FileRole.{FileRole}

@@ -1,7 +1,8 @@
 ghost use Rattle.std.specs.Prelude.{◌<◌};
 
 use mq_base::{AttrInfo, SubjectId, TableInfo, ValueType};
-use policy_reader::{Policy, PolicyNo, read_policy};
+use policy_base::Policy;
+use policy_reader::{PolicyNo, read_policy};
 use std::alloc::Global;
 use std::process::Abort;
 use std::test::Fail;

@@ -1,7 +1,7 @@
-ghost use Rattle.policy_reader.specs.Accepted.{IsAccepted};
+ghost use Rattle.policy_base.specs.Accepted.{IsAccepted};
 
 use super::{FILE, POLICY, changed, policy_of};
-use policy_reader::Policy;
+use policy_base::Policy;
 use price_reader::read_prices;
 use std::alloc::Global;
 use std::process::Abort;

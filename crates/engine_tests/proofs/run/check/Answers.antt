@@ -1,5 +1,5 @@
 use Rattle.std.proofs.Common.{sym, subst}
-use Rattle.policy_reader.specs.Accepted.{IsAccepted}
+use Rattle.policy_base.specs.Accepted.{IsAccepted}
 use Rattle.engine_tests.proofs.run.check.Goals as goal
 
 pub run-requires-clause-accepted : goal.run-requires-clause-accepted

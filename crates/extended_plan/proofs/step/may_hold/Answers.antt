@@ -1,5 +1,5 @@
 use Rattle.std.proofs.Common.{◌∙◌}
-use Rattle.policy_reader.specs.Accepted.{plain_of, sealed_of}
+use Rattle.policy_base.specs.Accepted.{plain_of, sealed_of}
 use Rattle.extended_plan.specs.Gains.{shown}
 use Rattle.extended_plan.specs.Job.{setting_of}
 use Rattle.extended_plan.proofs.JobLaws.{passes}

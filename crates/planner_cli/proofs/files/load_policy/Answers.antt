@@ -1,5 +1,5 @@
 use Rattle.std.proofs.lemmas.Result.{err_from_is_err_and}
-use Rattle.policy_reader.specs.Accepted.{IsAccepted}
+use Rattle.policy_base.specs.Accepted.{IsAccepted}
 use Rattle.policy_reader.specs.Codes as policy
 use Rattle.policy_reader.specs.Outcome.{policy_outcome}
 use Rattle.planner_cli.specs.declared.status.FileRole.TheVariants as role

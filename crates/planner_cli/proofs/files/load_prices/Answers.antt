@@ -1,7 +1,7 @@
 use Rattle.std.proofs.lemmas.Result.{err_from_is_err_and}
 use Rattle.price_reader.specs.Codes as price
 use Rattle.price_reader.specs.Outcome.{price_outcome}
-use Rattle.price_reader.specs.Priced.{IsPriced}
+use Rattle.policy_base.specs.Priced.{IsPriced}
 use Rattle.std.proofs.Common.{length}
 use Rattle.planner_cli.specs.declared.status.FileRole.TheVariants as role
 use Rattle.planner_cli.specs.Input.{prices_input}

@@ -1,6 +1,6 @@
 -- What holds of the prices that are read for a policy. docs/FORMATS.md, "Price file", says the limits.
 use Rattle.std.specs.Prelude.{◌≡◌, ℕ, ◌^◌, ◌<◌, ◌≤◌, [], slice_index, slice_index_or}
-use Rattle.price_reader.specs.declared.prices.Prices.{Prices}
+use Rattle.policy_base.specs.declared.prices.Prices.{Prices}
 
 -- each number is within 64 bits, sending to oneself is free, and each of so many attributes has a distinct value
 pub record IsPriced (attributes : ℕ) (prices : Prices) : Type 0 where

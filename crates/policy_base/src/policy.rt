@@ -1,5 +1,5 @@
 ghost use Rattle.std.specs.Prelude.{◌≡◌, ◌<◌};
-ghost use Rattle.policy_reader.specs.Accepted.{plain_of, sealed_of};
+ghost use Rattle.policy_base.specs.Accepted.{plain_of, sealed_of};
 
 use mq_base::{AttrSet, Schema, Scheme, Seq, SubjectId, Text};
 

@@ -1,6 +1,6 @@
 -- What holds of every accepted policy, and what its sets of attributes mean. docs/FORMATS.md, "Policy file", says the
 -- limits, and docs/MODEL.md, "Grants", what a subject may see.
-use Rattle.std.specs.Prelude.{◌≡◌, ℕ, ◌<◌, ◌≤◌, true, false, List, Ok, length, map, replicate, IfSome, slice_get, bytes_eq}
+use Rattle.std.specs.Prelude.{◌≡◌, ℕ, ◌<◌, ◌≤◌, true, false, List, length, map, IfSome, slice_get, bytes_eq}
 use Rattle.std.specs.List.{IsDistinct}
 use Rattle.std.specs.Option.{option_map_or}
 use Rattle.std.specs.Str.{IsUtf8}
@@ -8,13 +8,8 @@ use Rattle.base_laws.specs.Sets.{has, IsWithin}
 use Rattle.mq_base.specs.declared.attr_set.AttrSet.{AttrSet}
 use Rattle.mq_base.specs.declared.schema.AttrInfo.{AttrInfo}
 use Rattle.mq_base.specs.declared.schema.TableInfo.{TableInfo}
-use Rattle.mq_base.specs.declared.table.Scheme.TheVariants as scheme
 use Rattle.mq_base.specs.Schema.{IsSchema}
-use Rattle.toml_tree.specs.Outcome.{lists_outcome}
-use Rattle.policy_reader.specs.declared.policy.Policy.{Policy}
-use Rattle.policy_reader.specs.declared.raw.RawPolicy.{RawPolicy}
-use Rattle.policy_reader.specs.Shape.{policy_as}
-use Rattle.policy_reader.specs.Grants.{all_plain, all_sealed}
+use Rattle.policy_base.specs.declared.policy.Policy.{Policy}
 
 -- the set at a place, as a number
 abbrev pub set_at : List AttrSet → ℕ → ℕ
@@ -56,21 +51,3 @@ pub record IsAccepted (policy : Policy) : Type 0 where
   pub store_each : length policy.store ≡ length policy.schema.tables
   pub stores_listed : (t : ℕ) → IfSome (slice_get policy.store t) (λ store. store.0 < length policy.subjects)
   pub rest_within : (a : ℕ) → has policy.rest.0 a ≡ true → a < length policy.schema.attrs
-
--- what each subject may see is what the file's lists grant to its name, over all tables; and nothing where the id is no subject's
-pub record IsGranted (lists : RawPolicy) (policy : Policy) : Type 0 where
-  pub plain : (s : ℕ) → plain_of policy s ≡ option_map_or (all_plain lists.tables lists.rules) (slice_get policy.subjects s) 0
-  pub sealed : (s : ℕ) → sealed_of policy s ≡ option_map_or (all_sealed lists.tables lists.rules) (slice_get policy.subjects s) 0
-
--- the policy's sets are the grants of the lists that the file gives
-pub record SeesAsFiled (bytes : List ℕ) (policy : Policy) : Type 0 where
-  pub lists : RawPolicy
-  pub given : lists_outcome policy_as bytes ≡ Ok lists
-  pub granted : IsGranted lists policy
-
--- what a file of version 1 says of storage: each table is stored by its owner, no attribute is sealed at rest, and each
--- may be sealed under any scheme
-pub record IsStoredByOwners (policy : Policy) : Type 0 where
-  pub stores : policy.store ≡ map (λ (info : TableInfo). info.owner) policy.schema.tables
-  pub rest : policy.rest.0 ≡ 0
-  pub ceilings : policy.ceiling ≡ replicate 64 scheme.Ope

@@ -12,7 +12,7 @@ use Rattle.plan_algebra.specs.Tree.{Tree, Leaf, One, Two, size}
 use Rattle.plan_algebra.proofs.PlanLaws.{nodes-length}
 use Rattle.extended_plan.specs.Ready.{IsReady}
 use Rattle.extended_plan.specs.Setting.{Setting, kind_at}
-use Rattle.assign_table.specs.inside.Spans.{IsSpan, first_of, firsts_of}
+use Rattle.extended_plan.specs.Spans.{IsSpan, first_of, firsts_of}
 
 abbrev blank : PlanNode
 blank = leaf_node (record { 0 = 0 }) (record { 0 = 0 })
