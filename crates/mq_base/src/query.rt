@@ -4,7 +4,7 @@ use crate::seq::Seq;
 use crate::value::Value;
 
 /// A comparison: the left side stands before the word.
-#[derive(Clone, Copy, Debug, PartialEq, Eq, PartialOrd, Ord, Hash)]
+#[derive(Clone, Copy, Debug, PartialEq, Eq)]
 pub enum CmpOp {
     Eq,
     Ne,
@@ -15,7 +15,7 @@ pub enum CmpOp {
 }
 
 /// A function over the values of an attribute in a group.
-#[derive(Clone, Copy, Debug, PartialEq, Eq, PartialOrd, Ord, Hash)]
+#[derive(Clone, Copy, Debug, PartialEq, Eq)]
 pub enum Agg {
     Sum,
     Min,
@@ -41,7 +41,7 @@ pub enum Having {
 }
 
 /// A selected item.
-#[derive(Clone, Copy, Debug, PartialEq, Eq, PartialOrd, Ord, Hash)]
+#[derive(Clone, Copy, Debug, PartialEq, Eq)]
 pub enum Item {
     /// An attribute, or its aggregate where the query aggregates it.
     Attr(AttrId),

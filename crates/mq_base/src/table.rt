@@ -3,7 +3,7 @@ use crate::seq::Seq;
 use crate::value::Value;
 
 /// How an encrypted column is sealed.
-#[derive(Clone, Copy, Debug, PartialEq, Eq, PartialOrd, Ord, Hash)]
+#[derive(Clone, Copy, Debug, PartialEq, Eq)]
 pub enum Scheme {
     /// Randomised: nothing compares.
     Rnd,

@@ -8,7 +8,7 @@ use crate::text::Text;
 use std::cmp::Ordering;
 
 /// The type of a column.
-#[derive(Clone, Copy, Debug, PartialEq, Eq, PartialOrd, Ord, Hash)]
+#[derive(Clone, Copy, Debug, PartialEq, Eq)]
 pub enum ValueType {
     /// Whole numbers. A cell or a literal fits `i64`; sums are wider.
     Int,
