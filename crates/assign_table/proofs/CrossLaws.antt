@@ -4,7 +4,7 @@ use Rattle.std.proofs.Common.{◌≡◌, ℕ, zero, suc, ◌+◌, ◌-◌, ◌^�
 use Rattle.std.specs.Prelude.{IfSome, option_map}
 use Rattle.std.proofs.lemmas.Nat.Bits.{bit_at_ones}
 use Rattle.std.proofs.lemmas.Option.{get_or_from_slice_get}
-use Rattle.base_laws.specs.Sets.{has, IsWithin}
+use Rattle.base_laws.specs.Sets.{has}
 use Rattle.base_laws.proofs.SetLaws.{has-bit_and}
 use Rattle.mq_base.specs.declared.ids.AttrId.{AttrId}
 use Rattle.mq_base.specs.declared.ids.NodeId.{NodeId}
@@ -127,13 +127,6 @@ tried-before by last a is tried = by_case (crossing by) is tried
 pub tried-all : (all last a : ℕ) → has all a ≡ true → a < last → has (bit_and all (2 ^ last - 1)) a ≡ true
 tried-all all last a inside low =
     has-bit_and all (2 ^ last - 1) a ∙ ap (λ b. b && has (2 ^ last - 1) a) inside ∙ ap (λ k. k == 1) (bit_at_ones last a low)
-
-pub tried-within : (all others : ℕ) → IsWithin (bit_and all others) all
-tried-within all others = record { member = λ i there. left (has all i) (has others i) (sym (has-bit_and all others i) ∙ there) }
-  where
-    left : (x y : Bool) → (x && y) ≡ true → x ≡ true
-    left true y is = refl
-    left false y is = is
 
 -- ---- where all is settled
 

@@ -105,10 +105,10 @@ sends-none s n st to cells label beyond =
     (ap (λ b. if b && not (to.0 == st.holder.0) then held s to (Some (shown s n st)) (step_work s.basis (step.Send to) st.holder.0 n st.view) else None) none)
 
 -- the states across the attributes that are tried and not left are listed, and that across one more
-pub crossed-later : (s : Setting) (n room at : ℕ) (e : Settled) (old new : Sheet) → Continues s n room at e old new
+pub tried-later : (s : Setting) (n room at : ℕ) (e : Settled) (old new : Sheet) → Continues s n room at e old new
     → AreTried s n old.cells e → AreTried s n new.cells e
-crossed-later s n room at e old new later crossed = λ a crosses tried.
-    later.lower (across a e.state) (crossed_label s n a e) (crossed a crosses tried)
+tried-later s n room at e old new later tried = λ a crosses before.
+    later.lower (across a e.state) (crossed_label s n a e) (tried a crosses before)
 
 pub attributes-more : (s : Setting) (n room at : ℕ) (e : Settled) (old new : Sheet) (left next a : ℕ) → next ≡ without left (2 ^ a)
     → Continues s n room at e old new → AreTriedBut s n old.cells e left
@@ -163,5 +163,5 @@ subjects-all s n e sheet i end before to = by_order (below-or-above to.0 i)
 pub steps-closed : (s : Setting) (n room at : ℕ) (e : Settled) (old new : Sheet) → AreTried s n old.cells e
     → Continues s n room at e old new → ((to : SubjectId) → IfSome (send_gain s n to e.state) (IsGainListed new.cells e.label))
     → IsClosedOn s n new.cells e
-steps-closed s n room at e old new crossed later sends =
-    record { crossed = crossed-later s n room at e old new later crossed; send = sends }
+steps-closed s n room at e old new tried later sends =
+    record { tried = tried-later s n room at e old new later tried; send = sends }

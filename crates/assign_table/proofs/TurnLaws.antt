@@ -101,7 +101,7 @@ closed-later : (s : Setting) (n : ℕ) (old new : List (State × Cell)) (e : Set
     → ((other : State) (most : ℕ) → IsListedOn old other most → IsListedOn new other most)
     → IsClosedOn s n old e → IsClosedOn s n new e
 closed-later s n old new e lower closed = record {
-  crossed = λ a crosses tried. lower (across a e.state) (crossed_label s n a e) (closed.crossed a crosses tried);
+  tried = λ a crosses before. lower (across a e.state) (crossed_label s n a e) (closed.tried a crosses before);
   send = λ to. later (send_gain s n to e.state) (closed.send to);
 }
   where
@@ -302,7 +302,7 @@ done-drained s n room before start arena old new underway drained = record {
     in_block base attained w a gain inside is =
         crossing-in s n (length before) (length arena) arena w a.0 gain is
         (each_crossed s n (length before) arena
-        (λ v b from crosses tried. all _ _ ((closed v from).crossed b crosses tried))
+        (λ v b from crosses tried. all _ _ ((closed v from).tried b crosses tried))
         (λ v from. (met base attained v from).traced)
         (λ v from. let label = (met base attained v from).attained.costs in rw label (cut-fits (cost s (met base attained v from).attained.term)))
         w a.0 inside is.crosses)

@@ -9,8 +9,8 @@ ghost use Rattle.extended_plan.specs.Gains.{across, send_gain, step_gain};
 ghost use Rattle.extended_plan.specs.Job.{IsHeldAt, setting_of, told};
 ghost use Rattle.assign_table.specs.declared.table.TableNo.TheVariants.{Full};
 ghost use Rattle.assign_table.specs.inside.Cells.{IsListedOn};
-ghost use Rattle.assign_table.specs.inside.Crossing.{IsTried, crossed_label, crossing};
-ghost use Rattle.assign_table.specs.inside.Neighbours.{AreCrossed};
+ghost use Rattle.assign_table.specs.inside.Crossing.{IsTried, near_label, crossing};
+ghost use Rattle.assign_table.specs.inside.Neighbours.{AreNear};
 ghost use Rattle.assign_table.specs.inside.Order.{IsOrdered};
 ghost use Rattle.assign_table.specs.inside.Settling.{AreKnown, AreTried, Continues, IsClosedOn, IsDone, IsFront, IsGainListed, IsTurn, ShowsCrowd, ShowsCrowdFrom, ShowsCrowdOver, Stays};
 ghost use Rattle.assign_table.specs.inside.Sheet.{sheet_of};
@@ -83,7 +83,7 @@ fn offer_steps(
     requires node { node.0 < length (setting_of job.now).basis.nodes }
     requires held { IsHeldAt (setting_of job.now) node.0 taken.now.settled.state }
     requires front { IsFront table.old taken.now.settled }
-    requires crossed { AreCrossed (sheet_of table.old).cells taken.now.settled.state taken.now.crossed.0 taken.now.settled.label }
+    requires near { AreNear (sheet_of table.old).cells taken.now.settled.state taken.now.near.0 taken.now.settled.label }
     ensures continues { OnOk result (Continues (setting_of job.now) node.0 room at taken.now.settled (sheet_of table.old) (sheet_of table.new)) }
     ensures closed { OnOk result (IsClosedOn (setting_of job.now) node.0 (sheet_of table.new).cells taken.now.settled) }
     ensures full { result ≡ Err Full → ShowsCrowd (setting_of job.now) node.0 room at taken.now.settled (sheet_of table.old) }
@@ -105,13 +105,13 @@ fn offer_crypts(
     requires node { node.0 < length (setting_of job.now).basis.nodes }
     requires held { IsHeldAt (setting_of job.now) node.0 taken.now.settled.state }
     requires front { IsFront table.old taken.now.settled }
-    requires crossed { AreCrossed (sheet_of table.old).cells taken.now.settled.state taken.now.crossed.0 taken.now.settled.label }
+    requires near { AreNear (sheet_of table.old).cells taken.now.settled.state taken.now.near.0 taken.now.settled.label }
     ensures continues { OnOk result (Continues (setting_of job.now) node.0 room at taken.now.settled (sheet_of table.old) (sheet_of table.new)) }
     ensures tried { OnOk result (AreTried (setting_of job.now) node.0 (sheet_of table.new).cells taken.now.settled) }
     ensures full { result ≡ Err Full → ShowsCrowd (setting_of job.now) node.0 room at taken.now.settled (sheet_of table.old) }
 {
     let from = &taken.settled;
-    let mut left = tried(job, node, from).difference(taken.crossed);
+    let mut left = tried(job, node, from).difference(taken.near);
     'attributes: while let Some(a) = left.first() {
         offer_across(job, node, table, room, at, from, a)?;
         left = left.difference(AttrSet::of(a));
@@ -128,14 +128,14 @@ fn tried(job: &Job<'_>, node: NodeId, from: &Settled) -> AttrSet
     ensures within { IsWithin result.0 (gains.crossable (setting_of job.now) node.0 from.now.state.holder) }
 {
     let all = crossable(job, node, from.state.holder);
-    match crossed(from.way) {
+    match leads_across(from.way) {
         Some(a) if a.0 < 64 => all.intersection(AttrSet(AttrSet::of(a).0 - 1)),
         _ => all,
     }
 }
 
 // The attribute across which a way leads, where it is an encryption or a decryption.
-fn crossed(way: Way) -> Option<AttrId>
+fn leads_across(way: Way) -> Option<AttrId>
     ensures { result ≡ option_map (λ (c : AttrId × ℕ). c.0) (crossing way) }
 {
     match way {
@@ -165,7 +165,7 @@ fn offer_across(
     requires front { IsFront table.old from.now }
     ensures front { OnOk result (IsFront table.new from.now) }
     ensures continues { OnOk result (Continues (setting_of job.now) node.0 room at from.now (sheet_of table.old) (sheet_of table.new)) }
-    ensures listed { OnOk result (IsListedOn (sheet_of table.new).cells (across a.0 from.now.state) (crossed_label (setting_of job.now) node.0 a.0 from.now)) }
+    ensures listed { OnOk result (IsListedOn (sheet_of table.new).cells (across a.0 from.now.state) (near_label (setting_of job.now) node.0 a.0 from.now)) }
     ensures full { result ≡ Err Full → ShowsCrowd (setting_of job.now) node.0 room at from.now (sheet_of table.old) }
 {
     let step = crypt_of(&from.state, a);
@@ -240,14 +240,14 @@ fn offer_gain(
     from: &Settled,
     step: Step,
     gain: Option<(State, u128)>,
-    crossed: AttrSet,
+    near: AttrSet,
 ) -> Result<(), TableNo>
     requires node { node.0 < length (setting_of job.now).basis.nodes }
     requires held { IsHeldAt (setting_of job.now) node.0 from.now.state }
     requires stays { Stays step }
     requires within { IfSome gain (λ gained. IsHeldAt (setting_of job.now) node.0 gained.0) }
     requires gain { gain ≡ option_map told (step_gain (setting_of job.now) node step from.now.state None) }
-    requires crossed { IfSome (step_gain (setting_of job.now) node step from.now.state None) (λ gained. AreCrossed (sheet_of table.old).cells gained.state crossed.0 table.old.front) }
+    requires near { IfSome (step_gain (setting_of job.now) node step from.now.state None) (λ gained. AreNear (sheet_of table.old).cells gained.state near.0 table.old.front) }
     ensures front { OnOk result (table.new.front ≡ table.old.front) }
     ensures continues { OnOk result (Continues (setting_of job.now) node.0 room at from.now (sheet_of table.old) (sheet_of table.new)) }
     ensures listed { OnOk result (IfSome (step_gain (setting_of job.now) node step from.now.state None) (IsGainListed (sheet_of table.new).cells from.now.label)) }
@@ -257,7 +257,7 @@ fn offer_gain(
         None => Ok(()),
         Some((state, cost)) => {
             let way = Way::One { step, operand: at };
-            table.offer(&state, label_after(from.label, cost), way, crossed, room)
+            table.offer(&state, label_after(from.label, cost), way, near, room)
         }
     }
 }

@@ -2,7 +2,7 @@ ghost use Rattle.std.specs.Prelude.{◌≤◌, ◌<◌, length};
 ghost use Rattle.std.specs.BinaryHeap.{IsHeap, heap_items};
 ghost use Rattle.std.specs.List.{All};
 ghost use Rattle.std.proofs.Props.{props};
-ghost use Rattle.assign_table.specs.inside.Neighbours.{AreAllCrossed};
+ghost use Rattle.assign_table.specs.inside.Neighbours.{AreAllNear};
 ghost use Rattle.assign_table.specs.inside.Queue.{place_cmp};
 
 use crate::cell::{Cell, Waiting};
@@ -67,13 +67,13 @@ pub struct Table {
     cells: IndexMap<State, Cell>,
     queue: BinaryHeap<Reverse<Waiting>>,
     // For each state, by its place, the attributes across which the state there is listed with a label of at most the front.
-    crossed: Vec<AttrSet>,
+    near: Vec<AttrSet>,
     // The highest label that was taken.
     pub front: u128,
     ghost placed: { All (λ w. w.0.place < length cells.entries) (heap_items queue) },
     ghost heaped: { IsHeap place_cmp (heap_items queue) } by { Prim.hlevel props },
-    ghost each: { length cells.entries ≤ length crossed.items } by { Prim.hlevel props },
-    ghost listed: { AreAllCrossed cells.entries crossed.items front } by { Prim.hlevel props },
+    ghost each: { length cells.entries ≤ length near.items } by { Prim.hlevel props },
+    ghost listed: { AreAllNear cells.entries near.items front } by { Prim.hlevel props },
 }
 
 impl Table {
@@ -84,7 +84,7 @@ impl Table {
     ghost use Rattle.extended_plan.specs.States.{state_eq};
     ghost use Rattle.assign_table.specs.declared.table.TableNo.TheVariants.{Full};
     ghost use Rattle.assign_table.specs.inside.Cells.{cell_of, state_at};
-    ghost use Rattle.assign_table.specs.inside.Neighbours.{AreCrossed};
+    ghost use Rattle.assign_table.specs.inside.Neighbours.{AreNear};
     ghost use Rattle.assign_table.specs.inside.Settling.{IsFront};
     ghost use Rattle.assign_table.specs.inside.Sheet.{IsBlank, IsDrained, IsOffered, IsRefused, IsTaken, IsWritten, fresh_of, sheet_of, waits_at};
 
@@ -95,7 +95,7 @@ impl Table {
         Table {
             cells: IndexMap::new(alloc),
             queue: BinaryHeap::new(alloc),
-            crossed: Vec::new(alloc),
+            near: Vec::new(alloc),
             front: 0,
         }
     }
@@ -106,7 +106,7 @@ impl Table {
     {
         self.queue.clear();
         self.cells.clear();
-        self.crossed.clear();
+        self.near.clear();
         self.front = 0;
     }
 
@@ -121,10 +121,10 @@ impl Table {
         state: &State,
         label: u128,
         way: Way,
-        crossed: AttrSet,
+        near: AttrSet,
         room: usize,
     ) -> Result<(), TableNo>
-        requires crossed { AreCrossed (sheet_of self.old).cells state.now crossed.0 self.old.front }
+        requires near { AreNear (sheet_of self.old).cells state.now near.0 self.old.front }
         ensures front { OnOk result (self.new.front ≡ self.old.front) }
         ensures offered { OnOk result (IsOffered (sheet_of self.old) state.now label way (sheet_of self.new)) }
         ensures within { OnOk result (length (sheet_of self.old).cells ≤ room → length (sheet_of self.new).cells ≤ room) }
@@ -132,12 +132,12 @@ impl Table {
         ensures kept { result ≡ Err Full → sheet_of self.new ≡ sheet_of self.old }
     {
         match self.cells.get_index_of(state) {
-            Some(place) => self.offer_at(place, label, way, crossed),
+            Some(place) => self.offer_at(place, label, way, near),
             None => {
                 if room <= self.cells.len() {
                     Err(TableNo::Full)
                 } else {
-                    self.add(*state, label, way, crossed)
+                    self.add(*state, label, way, near)
                 }
             }
         }
@@ -149,18 +149,18 @@ impl Table {
         place: usize,
         label: u128,
         way: Way,
-        crossed: AttrSet,
+        near: AttrSet,
     ) -> Result<(), TableNo>
         requires place { place < length (sheet_of self.old).cells }
         requires distinct { IsDistinct state_eq (keys_of (sheet_of self.old).cells) }
-        requires crossed { AreCrossed (sheet_of self.old).cells (state_at (keys_of (sheet_of self.old).cells) place) crossed.0 self.old.front }
+        requires near { AreNear (sheet_of self.old).cells (state_at (keys_of (sheet_of self.old).cells) place) near.0 self.old.front }
         ensures front { OnOk result (self.new.front ≡ self.old.front) }
         ensures offered { (st : State) → position (state_eq st) (keys_of (sheet_of self.old).cells) ≡ Some place
             → OnOk result (IsOffered (sheet_of self.old) st label way (sheet_of self.new)) }
         ensures as_long { OnOk result (length (sheet_of self.new).cells ≡ length (sheet_of self.old).cells) }
         ensures not_full { result ≡ Err Full → ⊥ }
     {
-        self.crossed[place] = self.crossed[place].union(crossed);
+        self.near[place] = self.near[place].union(near);
         if self.cells[place].label <= label {
             return Ok(());
         }
@@ -170,9 +170,9 @@ impl Table {
     }
 
     // Gives a new state a label, a way and these attributes, and lets it wait.
-    fn add(&mut self, state: State, label: u128, way: Way, crossed: AttrSet) -> Result<(), TableNo>
+    fn add(&mut self, state: State, label: u128, way: Way, near: AttrSet) -> Result<(), TableNo>
         requires new { cell_of (sheet_of self.old).cells state ≡ None }
-        requires crossed { AreCrossed (sheet_of self.old).cells state crossed.0 self.old.front }
+        requires near { AreNear (sheet_of self.old).cells state near.0 self.old.front }
         ensures front { OnOk result (self.new.front ≡ self.old.front) }
         ensures written { OnOk result (IsWritten (sheet_of self.old) state label way (sheet_of self.new)) }
         ensures longer { OnOk result (length (sheet_of self.new).cells ≡ length (sheet_of self.old).cells + 1) }
@@ -180,8 +180,8 @@ impl Table {
     {
         let place = self.cells.len();
         // A state that could not be inserted may have left its attributes.
-        self.crossed.truncate(place);
-        self.crossed.push(crossed)?;
+        self.near.truncate(place);
+        self.near.push(near)?;
         self.cells.insert(state, Cell { label, way })?;
         self.queue.push(Reverse(Waiting { label, place }))?;
         Ok(())
@@ -191,7 +191,7 @@ impl Table {
     /// each that is dropped or taken, and it takes no memory.
     pub fn take(&mut self) -> Option<Taken>
         ensures taken { MatchOption result (IsDrained (sheet_of self.old) (sheet_of self.new)) (λ t. IsTaken (sheet_of self.old) t.settled (sheet_of self.new)) }
-        ensures crossed { IfSome result (λ t. AreCrossed (sheet_of self.new).cells t.settled.state t.crossed.0 t.settled.label) }
+        ensures near { IfSome result (λ t. AreNear (sheet_of self.new).cells t.settled.state t.near.0 t.settled.label) }
         ensures front { IfSome result (λ t. IsFront self.new t.settled) }
     {
         'sifting: loop {
@@ -213,20 +213,20 @@ impl Table {
         requires state { state_at (keys_of (sheet_of self.old).cells) place ≡ settled.state }
         ensures settled { result.settled ≡ settled }
         ensures same { sheet_of self.new ≡ sheet_of self.old }
-        ensures crossed { AreCrossed (sheet_of self.old).cells settled.state result.crossed.0 settled.label }
+        ensures near { AreNear (sheet_of self.old).cells settled.state result.near.0 settled.label }
         ensures low { settled.label ≤ self.new.front }
         ensures fits { settled.label < 2 ^ 128 }
     {
         if settled.label < self.front {
             return Taken {
                 settled,
-                crossed: AttrSet(0),
+                near: AttrSet(0),
             };
         }
         self.front = settled.label;
         Taken {
             settled,
-            crossed: self.crossed[place],
+            near: self.near[place],
         }
     }
 

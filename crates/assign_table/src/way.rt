@@ -24,5 +24,5 @@ pub struct Settled {
 #[derive(Clone, Copy, Debug, PartialEq, Eq)]
 pub struct Taken {
     pub settled: Settled,
-    pub crossed: AttrSet,
+    pub near: AttrSet,
 }

@@ -10,15 +10,15 @@ use Rattle.assign_table.specs.declared.cell.Cell.{Cell}
 use Rattle.assign_table.specs.inside.Cells.{cell_of, state_at}
 
 -- the states across these attributes are listed, with a label of at most so much
-abbrev pub AreCrossed : List (State × Cell) → State → ℕ → ℕ → Type 0
-AreCrossed cells st crossed most =
-    (a : ℕ) → has crossed a ≡ true → IsSomeAnd (cell_of cells (across a st)) (λ cell. cell.label ≤ most)
+abbrev pub AreNear : List (State × Cell) → State → ℕ → ℕ → Type 0
+AreNear cells st near most =
+    (a : ℕ) → has near a ≡ true → IsSomeAnd (cell_of cells (across a st)) (λ cell. cell.label ≤ most)
 
 -- the attributes that stand at a place
-abbrev pub crossed_at : List AttrSet → ℕ → AttrSet
-crossed_at crossed place = slice_index_or crossed place (record { 0 = 0 })
+abbrev pub near_at : List AttrSet → ℕ → AttrSet
+near_at near place = slice_index_or near place (record { 0 = 0 })
 
 -- it is so of the attributes that stand at the place of each state
-abbrev pub AreAllCrossed : List (State × Cell) → List AttrSet → ℕ → Type 0
-AreAllCrossed cells crossed front =
-    (place : ℕ) → place < length cells → AreCrossed cells (state_at (keys_of cells) place) (crossed_at crossed place).0 front
+abbrev pub AreAllNear : List (State × Cell) → List AttrSet → ℕ → Type 0
+AreAllNear cells near front =
+    (place : ℕ) → place < length cells → AreNear cells (state_at (keys_of cells) place) (near_at near place).0 front

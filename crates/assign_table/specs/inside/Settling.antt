@@ -24,8 +24,8 @@ use Rattle.assign_table.specs.inside.Order.{IsOrdered}
 use Rattle.assign_table.specs.inside.Sheet.{IsDrained, Sheet, sheet_of}
 use Rattle.assign_table.specs.inside.Ways.{IsAttained, settled_at}
 
--- each cell of a node's table, and each settled state of its block, is attained there, or gained across an attribute there where its way
--- tells so; a state has one cell
+-- each cell of a node's table, and each settled state of its block, is attained there, and gained across an attribute there where its
+-- way tells so; a state has one cell
 pub record AreAttained (s : Setting) (n base from : ℕ) (arena : List Settled) (sheet : Sheet) : Type 0 where
   pub cells : (st : State) (cell : Cell) → cell_of sheet.cells st ≡ Some cell
       → IsMet s arena n base from (length arena) st cell.label cell.way
@@ -68,7 +68,7 @@ AreTriedBut s n cells e left =
 
 -- what is tried from a settled state is listed: the states across attributes, and what each send gains
 pub record IsClosedOn (s : Setting) (n : ℕ) (cells : List (State × Cell)) (e : Settled) : Type 0 where
-  pub crossed : AreTried s n cells e
+  pub tried : AreTried s n cells e
   pub send : (to : SubjectId) → IfSome (send_gain s n to e.state) (IsGainListed cells e.label)
 
 -- a settled state is listed in a table, and its label, a number that a cell can hold, is not above the front

@@ -1,7 +1,7 @@
 use Rattle.std.proofs.lemmas.Result.{on_ok_weaker}
 use Rattle.assign_table.specs.inside.Sheet.{sheet_of}
 use Rattle.assign_table.proofs.ArriveLaws.{arrival_crowded, arrival_open}
-use Rattle.assign_table.proofs.NearLaws.{none-crossed}
+use Rattle.assign_table.proofs.NearLaws.{none-near}
 use Rattle.assign_table.proofs.GainLaws.{on-both}
 use Rattle.assign_table.proofs.OrderLaws.{offered-listed}
 use Rattle.assign_table.proofs.arrive.offer_arrival.Goals as goal
@@ -24,4 +24,4 @@ returns-clause-crowded c = λ full.
     (c.offer.ensures.refused full)
 
 pub offer-requires : goal.offer-requires
-offer-requires c = record { crossed = none-crossed (sheet_of c.args.table.now).cells c.args.state c.args.table.now.front }
+offer-requires c = record { near = none-near (sheet_of c.args.table.now).cells c.args.state c.args.table.now.front }

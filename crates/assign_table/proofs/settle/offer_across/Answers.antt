@@ -23,8 +23,8 @@ offer_gain-requires-clause-gain c =
     ∙ crypt-gains (setting_of c.args.job.now) c.args.node c.args.a c.args.from.now.state (has c.args.from.now.state.view.enc.0 c.args.a.0)
     c.requires.held refl))
 
-pub offer_gain-requires-clause-crossed : goal.offer_gain-requires-clause-crossed
-offer_gain-requires-clause-crossed c =
+pub offer_gain-requires-clause-near : goal.offer_gain-requires-clause-near
+offer_gain-requires-clause-near c =
     let s = setting_of c.args.job.now in
     let e = c.args.from.now in
     let cells = c.args.table.now.cells.entries in

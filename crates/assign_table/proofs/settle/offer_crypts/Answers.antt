@@ -15,10 +15,10 @@ attributes-init c =
     let less = c.difference-left.ensures in (
       continues-none (setting_of c.args.job.now) c.args.node.0 c.args.room c.args.at c.args.taken.now.settled (sheet_of c.args.table.now),
       (
-        attributes-within _ _ _ c.args.taken.now.crossed.0 less c.tried.ensures.within,
+        attributes-within _ _ _ c.args.taken.now.near.0 less c.tried.ensures.within,
         (
           attributes-first (setting_of c.args.job.now) c.args.node.0 (sheet_of c.args.table.now).cells c.args.taken.now.settled c.tried.result.0
-              c.args.taken.now.crossed.0 _ c.requires.front.fits c.tried.ensures.each less c.requires.crossed,
+              c.args.taken.now.near.0 _ c.requires.front.fits c.tried.ensures.each less c.requires.near,
           c.requires.front,
         ),
       ),

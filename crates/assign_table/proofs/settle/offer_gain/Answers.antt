@@ -3,14 +3,14 @@ use Rattle.std.proofs.lemmas.Result.{on_ok_weaker}
 use Rattle.extended_plan.specs.Job.{IsHeldAt, setting_of}
 use Rattle.assign_table.specs.inside.Sheet.{sheet_of}
 use Rattle.assign_table.proofs.GainLaws.{none-listed, on-both, step-continues, step-crowd, step-listed}
-use Rattle.assign_table.proofs.NearLaws.{told-crossed}
+use Rattle.assign_table.proofs.NearLaws.{told-near}
 use Rattle.assign_table.proofs.SettleLaws.{continues-none}
 use Rattle.assign_table.proofs.settle.offer_gain.Goals as goal
 
 pub offer-requires : goal.offer-requires
 offer-requires c = record {
-  crossed = told-crossed _ (c.in-Some.state, c.in-Some.cost) (sheet_of c.args.table.now).cells c.args.crossed.0 c.args.table.now.front
-      (sym c.in-Some.is ∙ c.requires.gain) c.requires.crossed;
+  near = told-near _ (c.in-Some.state, c.in-Some.cost) (sheet_of c.args.table.now).cells c.args.near.0 c.args.table.now.front
+      (sym c.in-Some.is ∙ c.requires.gain) c.requires.near;
 }
 
 pub returns-in-None-clause-continues : goal.returns-in-None-clause-continues

@@ -32,5 +32,5 @@ returns-clause-tried c =
     subjects-all (setting_of c.args.job.now) c.args.node.0 c.args.from.now (sheet_of c.subjects.table) c.subjects.to
     (omega (arith, c.subjects-test.false, ap length c.as_slice-subjects.ensures)) c.subjects.invariant.1.0
 
-pub offer_gain-requires-clause-crossed : goal.offer_gain-requires-clause-crossed
-offer_gain-requires-clause-crossed c = none-crossing _ _ _
+pub offer_gain-requires-clause-near : goal.offer_gain-requires-clause-near
+offer_gain-requires-clause-near c = none-crossing _ _ _

@@ -32,7 +32,7 @@ returns-clause-written c =
 
 pub invariant_of-self-2-clause-listed : goal.invariant_of-self-2-clause-listed
 invariant_of-self-2-clause-listed c =
-    all-put c.args.self.now.cells.entries c.insert.new.self.entries c.args.self.now.crossed.items c.push.new.self.items c.args.self.now.front
-    c.len-place.result c.args.state (record { label = c.args.label; way = c.args.way }) c.args.crossed c.args.self.now.each
+    all-put c.args.self.now.cells.entries c.insert.new.self.entries c.args.self.now.near.items c.push.new.self.items c.args.self.now.front
+    c.len-place.result c.args.state (record { label = c.args.label; way = c.args.way }) c.args.near c.args.self.now.each
     c.len-place.ensures.len c.requires.new c.in_ok-insert.ensures.entries
-    (c.in_ok-push.ensures.items ∙ ap (λ sets. sets ++ c.args.crossed ∷ []) c.truncate.ensures.items) c.requires.crossed c.args.self.now.listed
+    (c.in_ok-push.ensures.items ∙ ap (λ sets. sets ++ c.args.near ∷ []) c.truncate.ensures.items) c.requires.near c.args.self.now.listed

@@ -55,25 +55,25 @@ returns-clause-as_long c = length-set c.args.self.now.cells.entries c.args.place
 
 pub invariant_of-self-clause-each : goal.invariant_of-self-clause-each
 invariant_of-self-clause-each c =
-    omega (arith, c.args.self.now.each, length-put c.args.self.now.crossed.items c.args.place c.union.result)
+    omega (arith, c.args.self.now.each, length-put c.args.self.now.near.items c.args.place c.union.result)
 
 pub invariant_of-self-clause-listed : goal.invariant_of-self-clause-listed
 invariant_of-self-clause-listed c =
-    all-noted c.args.self.now.cells.entries c.args.self.now.crossed.items c.args.self.now.front c.args.place c.index.result.now c.union.result
-    c.args.crossed.0 (omega (arith, c.requires.place, c.args.self.now.each)) c.index.ensures c.union.ensures c.requires.crossed c.args.self.now.listed
+    all-noted c.args.self.now.cells.entries c.args.self.now.near.items c.args.self.now.front c.args.place c.index.result.now c.union.result
+    c.args.near.0 (omega (arith, c.requires.place, c.args.self.now.each)) c.index.ensures c.union.ensures c.requires.near c.args.self.now.listed
 
 pub invariant_of-self-2-clause-each : goal.invariant_of-self-2-clause-each
 invariant_of-self-2-clause-each c =
     omega (
       arith,
       c.args.self.now.each,
-      length-put c.args.self.now.crossed.items c.args.place c.union.result,
+      length-put c.args.self.now.near.items c.args.place c.union.result,
       length-set c.args.self.now.cells.entries c.args.place (record { label = c.args.label; way = c.args.way }),
     )
 
 pub invariant_of-self-2-clause-listed : goal.invariant_of-self-2-clause-listed
 invariant_of-self-2-clause-listed c =
-    all-lowered c.args.self.now.cells.entries (slice_set c.args.self.now.crossed.items c.args.place c.union.result) c.args.self.now.front
+    all-lowered c.args.self.now.cells.entries (slice_set c.args.self.now.near.items c.args.place c.union.result) c.args.self.now.front
     c.args.place c.index-2.result.now (record { label = c.args.label; way = c.args.way }) c.index-2.ensures (omega (arith, c.if-index-label.false))
-    (all-noted c.args.self.now.cells.entries c.args.self.now.crossed.items c.args.self.now.front c.args.place c.index.result.now c.union.result
-    c.args.crossed.0 (omega (arith, c.requires.place, c.args.self.now.each)) c.index.ensures c.union.ensures c.requires.crossed c.args.self.now.listed)
+    (all-noted c.args.self.now.cells.entries c.args.self.now.near.items c.args.self.now.front c.args.place c.index.result.now c.union.result
+    c.args.near.0 (omega (arith, c.requires.place, c.args.self.now.each)) c.index.ensures c.union.ensures c.requires.near c.args.self.now.listed)
