@@ -10,31 +10,10 @@ ghost use Rattle.provider_engine.specs.OfJob.{IsOfJob};
 ghost use Rattle.provider_engine.specs.Steps.{IsOnOne, IsRunnableOn, IsRunnableOnTwo, IsTakenFrom, state_after, state_after_two};
 
 use extended_plan::Job;
-use mq_base::{NodeId, PlanOp, Step, SubjectId, TableId};
+use mq_base::{NodeId, Step, SubjectId};
 use plan_algebra::Kind;
 use provider_engine::Held;
 use relation_profile::{after_binary, after_dec, after_enc, after_unary};
-
-/// The place of the leaf of a table, where the plan has one.
-pub(crate) fn leaf_of(job: &Job<'_>, t: TableId) -> Option<usize>
-    ensures { result ≡ setting.leaf_of (setting_of job.now) t }
-{
-    job.facts
-        .plan
-        .nodes
-        .as_slice()
-        .iter()
-        .position(|node| is_base(t, &node.op))
-}
-
-fn is_base(t: TableId, op: &PlanOp) -> bool
-    ensures { result ≡ setting.is_base t op.now }
-{
-    match op {
-        PlanOp::Base(u, _) => u.0 == t.0,
-        _ => false,
-    }
-}
 
 /// Whether a step is runnable on a table.
 pub(crate) fn is_runnable(job: &Job<'_>, step: &Step, held: &Held) -> bool

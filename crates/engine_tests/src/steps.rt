@@ -6,7 +6,7 @@ ghost use Rattle.provider_engine.specs.OfJob.{IsOfJob, IsOpenedBy};
 ghost use Rattle.provider_engine.specs.Typed.{AreTyped};
 
 use crate::given::Branch;
-use crate::premises::{is_runnable, is_runnable_on_two, leaf_of};
+use crate::premises::{is_runnable, is_runnable_on_two};
 use crate::told::told;
 use column_table::RunNo;
 use extended_plan::Job;

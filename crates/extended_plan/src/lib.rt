@@ -22,5 +22,5 @@ pub use laws::{
 pub use list_laws::outcomes_are_exact;
 pub use stack::StepStack;
 pub use state::{Entry, Found, Labels, PlanTotals, State};
-pub use step::{after_cross, after_send, after_step, crossable, leaf_state};
+pub use step::{after_cross, after_send, after_step, crossable, leaf_of, leaf_state};
 pub use step_no::{StepNo, StepWhy, StepsNo};

@@ -56,8 +56,8 @@ fn where_held(job: &Job<'_>, node: NodeId, state: State) -> Option<State>
     }
 }
 
-// The place of the leaf of a table.
-pub(crate) fn leaf_of(job: &Job<'_>, t: TableId) -> Option<usize>
+/// The place of the leaf of a table, where the plan has one. It takes no memory.
+pub fn leaf_of(job: &Job<'_>, t: TableId) -> Option<usize>
     ensures { result ≡ setting.leaf_of (setting_of job.now) t }
 {
     job.facts

@@ -16,7 +16,7 @@ ghost use Rattle.provider_engine.specs.Decoding.{IsRun};
 ghost use Rattle.row_algebra.specs.Contents.{Contents, contents_of};
 ghost use Rattle.row_algebra.specs.Meaning.{query_rows};
 
-use crate::bytes::{constants_have_bytes, tables_have_bytes};
+use crate::bytes::tables_have_bytes;
 use crate::pile::Pile;
 use crate::rows::rows_of;
 use crate::step::run_step;
@@ -24,7 +24,7 @@ use crate::stop::RunStop;
 use extended_plan::Job;
 use key_clusters::{Keys, compared_share_a_key};
 use mq_base::{NodeId, PlainTable, Seq, Step, Value};
-use provider_engine::Held;
+use provider_engine::{Held, constants_have_bytes};
 use std::alloc::Global;
 
 /// The rows that a query asks for, by its valid extended plan of these steps, run over the query's tables, which are in the order of FROM,

@@ -91,29 +91,7 @@ fn leaf_node(job: &Job<'_>, t: TableId) -> NodeId
     requires { IsSome (leaf_of (setting_of job.now) t) }
     ensures { leaf_of (setting_of job.now) t ≡ Some result.0 }
 {
-    NodeId(leaf_place(job, t).unwrap() as u8)
-}
-
-// The place of the leaf of a table.
-fn leaf_place(job: &Job<'_>, t: TableId) -> Option<usize>
-    ensures { result ≡ leaf_of (setting_of job.now) t }
-{
-    job.facts
-        .plan
-        .nodes
-        .as_slice()
-        .iter()
-        .position(|node| is_base(t, &node.op))
-}
-
-// Whether an operation is the leaf of a table.
-fn is_base(t: TableId, op: &PlanOp) -> bool
-    ensures { result ≡ setting.is_base t op.now }
-{
-    match op {
-        PlanOp::Base(u, _) => u.0 == t.0,
-        _ => false,
-    }
+    NodeId(extended_plan::leaf_of(job, t).unwrap() as u8)
 }
 
 // The state of the leaf of a table, which is at this node, at its store.

@@ -3,6 +3,7 @@
 #![tactic(auto)]
 
 mod binary;
+mod bytes;
 mod choose;
 mod group;
 mod held;
@@ -13,6 +14,7 @@ mod state;
 mod unary;
 
 pub use binary::run_binary;
+pub use bytes::{constants_have_bytes, value_has_bytes};
 pub use held::Held;
 pub use laws::{
     hidden_columns_do_not_matter, hidden_columns_do_not_matter_to_holders, nodes_are_narrow,

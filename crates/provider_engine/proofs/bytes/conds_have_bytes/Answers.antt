@@ -2,7 +2,7 @@ use Rattle.std.proofs.Common.{take, sym, subst, arith}
 use Rattle.std.proofs.lemmas.List.{take_all}
 use Rattle.std.proofs.lemmas.List.Elements.{All-more, All-same}
 use Rattle.provider_engine.specs.Typed.{HasByteConstant}
-use Rattle.plan_runner.proofs.bytes.conds_have_bytes.Goals as goal
+use Rattle.provider_engine.proofs.bytes.conds_have_bytes.Goals as goal
 
 pub loop-cond-preserved : goal.loop-cond-preserved
 loop-cond-preserved c =
