@@ -12,7 +12,3 @@ pub mod GainLaws
 pub mod CrossLaws
 pub mod JobLaws
 pub mod ReadyLaws
-pub mod StackLaws
-pub mod SlotLaws
-pub mod AtLaws
-pub mod PassLaws

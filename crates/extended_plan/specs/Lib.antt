@@ -12,5 +12,4 @@ pub mod Certificate
 pub mod StepList
 pub mod StepListLaws
 pub mod Laws
-pub mod Room
 pub mod inside

@@ -9,8 +9,7 @@ use cost_model::{CostBase, Estimates, estimates};
 use key_clusters::{Clusters, clusters};
 use mq_base::{NoMemory, Query};
 use plan_algebra::PlanFacts;
-use policy_base::Policy;
-use policy_base::Prices;
+use policy_base::{Policy, Prices};
 use std::alloc::Global;
 
 /// A query over a policy with prices, its plan with the facts of each node, and what costs are reckoned from: all that extended

@@ -2,17 +2,14 @@
 //! one of them. It stands on the profiles, the authority and the costs of single steps; search, certificates and providers stand on it.
 #![tactic(auto)]
 
-mod check;
 mod job;
 mod laws;
 mod list_laws;
 mod planned;
-mod stack;
 mod state;
 mod step;
 mod step_no;
 
-pub use check::{check_steps, check_steps_in};
 pub use job::Job;
 pub use laws::{
     closed_labels_bound, crypts_are_across, entries_tell_least, gains_are_terms,
@@ -20,7 +17,8 @@ pub use laws::{
     none_is_shown, spelling_determines, terms_are_gained, terms_are_seen,
 };
 pub use list_laws::outcomes_are_exact;
-pub use stack::StepStack;
 pub use state::{Entry, Found, Labels, PlanTotals, State};
-pub use step::{after_cross, after_send, after_step, crossable, leaf_of, leaf_state};
-pub use step_no::{StepNo, StepWhy, StepsNo};
+pub use step::{
+    after_cross, after_send, after_step, crossable, leaf_at, leaf_of, leaf_state, run_step, work_of,
+};
+pub use step_no::{StepNo, StepWhy};

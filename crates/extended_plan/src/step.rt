@@ -31,8 +31,9 @@ pub fn leaf_state(job: &Job<'_>, t: TableId) -> Option<State>
     where_held(job, node, leaf_at(job, t, node))
 }
 
-// The state of the leaf of a table, which is at this node, at its store, whether that may hold it or not.
-pub(crate) fn leaf_at(job: &Job<'_>, t: TableId, node: NodeId) -> State
+/// The state of the leaf of a table, which is at this node, at its store, whether that may hold it or not. docs/MODEL.md, "States". It
+/// takes no memory.
+pub fn leaf_at(job: &Job<'_>, t: TableId, node: NodeId) -> State
     requires { setting.leaf_of (setting_of job.now) t ≡ Some node.0 }
     ensures answers { result ≡ state (setting_of job.now) (Leaf t) }
     ensures stands { IsStateAt (setting_of job.now) node.0 result }
@@ -179,8 +180,9 @@ fn load_of(job: &Job<'_>, node: NodeId, first: &State, known: Option<u128>) -> u
     }
 }
 
-// The state after a step, where it is runnable.
-pub(crate) fn run_step(
+/// The state after a step, where it is runnable, whether its holder may hold the result or not. `node`, `first` and `second` are as for
+/// `after_step`. docs/MODEL.md, "States". It takes no memory.
+pub fn run_step(
     job: &Job<'_>,
     node: NodeId,
     step: &Step,
@@ -265,8 +267,9 @@ pub(crate) fn may_hold(job: &Job<'_>, node: NodeId, state: &State) -> bool
     check_view(job.policy, state.holder, &job.facts, node, &state.view).is_ok()
 }
 
-// What a step costs whose result is at a node and which is taken from this state.
-pub(crate) fn work_of(job: &Job<'_>, node: NodeId, step: &Step, from: &State) -> u128
+/// What a step costs whose result is at a node and which is taken from this state, cut at 2^128 - 1. docs/MODEL.md, "Costs". It takes no
+/// memory.
+pub fn work_of(job: &Job<'_>, node: NodeId, step: &Step, from: &State) -> u128
     requires { node.0 < length job.now.facts.plan.nodes }
     ensures { result ≡ cut (step_work (setting_of job.now).basis step.now from.now.holder.0 node.0 from.now.view) }
 {

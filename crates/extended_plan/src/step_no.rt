@@ -1,4 +1,4 @@
-use mq_base::{NoMemory, SubjectId};
+use mq_base::SubjectId;
 
 /// Why a list of steps fails at a place; at one place the causes are tested in this order. docs/MODEL.md, "Step lists".
 #[derive(Clone, Copy, Debug, PartialEq, Eq)]
@@ -21,24 +21,4 @@ pub enum StepWhy {
 pub struct StepNo {
     pub at: u32,
     pub why: StepWhy,
-}
-
-/// Why a check of a list of steps answers no totals.
-#[derive(Clone, Copy, Debug, PartialEq, Eq)]
-pub enum StepsNo {
-    /// The list fails, at the first place where it does.
-    Refused(StepNo),
-    /// The allocator refused a request for memory.
-    NoMemory,
-}
-
-impl From<NoMemory> for StepsNo {
-    ghost use Rattle.std.specs.Prelude.{◌≡◌};
-    ghost use Rattle.extended_plan.specs.declared.step_no.StepsNo.TheVariants.{NoMemory};
-
-    ghost from_gives = { λ _ e. e ≡ NoMemory };
-
-    fn from(_no_memory: NoMemory) -> StepsNo {
-        StepsNo::NoMemory
-    }
 }

@@ -1,9 +1,7 @@
 //! What lists of steps come to, over a policy, prices and a query.
 ghost use Rattle.std.specs.Prelude.{◌≤◌, length};
 
-use extended_plan::{
-    Job, PlanTotals, State, StepNo, StepStack, StepWhy, StepsNo, check_steps, check_steps_in,
-};
+use extended_plan::{Job, PlanTotals, State, StepNo, StepWhy};
 use mq_base::{AttrId, AttrSet, Step, SubjectId};
 use policy_reader::read_policy;
 use price_reader::read_prices;
@@ -13,6 +11,7 @@ use sql_reader::read_query;
 use std::alloc::Global;
 use std::process::Abort;
 use std::test::Fail;
+use step_check::{StepStack, StepsNo, check_steps, check_steps_in};
 use view_authority::Breach;
 
 /// A policy, its prices and a query.

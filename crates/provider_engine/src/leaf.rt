@@ -4,8 +4,7 @@ ghost use Rattle.std.specs.Prelude.{◌≡◌, ◌<◌, ℕ, IfErr, IfOk, IsSome
 ghost use Rattle.std.specs.List.{All};
 ghost use Rattle.base_laws.specs.Sets.{has};
 ghost use Rattle.column_table.specs.Columns.{column_at, shown, shown_columns};
-ghost use Rattle.extended_plan.specs.Job.{IsStateAt, setting_of};
-ghost use Rattle.extended_plan.specs.Setting as setting;
+ghost use Rattle.extended_plan.specs.Job.{setting_of};
 ghost use Rattle.extended_plan.specs.Setting.{leaf_of};
 ghost use Rattle.extended_plan.specs.States.{state};
 ghost use Rattle.extended_plan.specs.Term.{Leaf};
@@ -29,13 +28,11 @@ ghost use Rattle.row_algebra.specs.Rows.{cut};
 use crate::held::Held;
 use crate::seal::{key_of, lock_column};
 use column_table::{Table, no_columns};
-use extended_plan::{Job, State};
+use extended_plan::{Job, leaf_at};
 use key_clusters::Keys;
 use mq_base::{
-    AttrId, AttrSet, NoMemory, NodeId, PlainTable, PlanOp, Schema, Scheme, Seq, SubjectId, TableId,
-    Value, ValueType,
+    AttrId, AttrSet, NoMemory, NodeId, PlainTable, Schema, Scheme, Seq, TableId, Value, ValueType,
 };
-use relation_profile::leaf_view;
 use sealed_column::{AnyColumn, CellState, Clear, Column};
 use std::alloc::Global;
 use std::mem;
@@ -64,7 +61,7 @@ pub fn run_leaf(
     ensures back { IfErr result (λ failed. failed.0 ≡ table) }
 {
     let node = leaf_node(job, table.table);
-    let state = leaf_state(job, table.table, node);
+    let state = leaf_at(job, table.table, node);
     let used = own_set(job, table.table, node);
     let sealed = used.intersection(job.policy.rest);
     let plain = used.difference(job.policy.rest);
@@ -92,26 +89,6 @@ fn leaf_node(job: &Job<'_>, t: TableId) -> NodeId
     ensures { leaf_of (setting_of job.now) t ≡ Some result.0 }
 {
     NodeId(extended_plan::leaf_of(job, t).unwrap() as u8)
-}
-
-// The state of the leaf of a table, which is at this node, at its store.
-fn leaf_state(job: &Job<'_>, t: TableId, node: NodeId) -> State
-    requires { leaf_of (setting_of job.now) t ≡ Some node.0 }
-    ensures answers { result ≡ state (setting_of job.now) (Leaf t) }
-    ensures stands { IsStateAt (setting_of job.now) node.0 result }
-{
-    State {
-        holder: store_of(job, t),
-        view: leaf_view(&job.facts, node, job.policy.rest),
-    }
-}
-
-// The subject that stores a table.
-fn store_of(job: &Job<'_>, t: TableId) -> SubjectId
-    requires { t.0 < length job.now.policy.now.store }
-    ensures { result ≡ setting.store_of (setting_of job.now) t }
-{
-    job.policy.store.as_slice()[usize::from(t.0)]
 }
 
 // The used attributes of the leaf of a table, which is at this node: they are the table's own.

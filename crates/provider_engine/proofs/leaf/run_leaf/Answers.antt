@@ -38,13 +38,13 @@ invariant_of-result-in-Ok c =
     c.requires.schema c.requires.form c.own_set-used.ensures.own c.intersection-sealed.ensures c.difference-plain.ensures
     c.move_plain-columns.ensures.places c.in-Ok.ensures c.move_plain-columns.ensures.moved in
     let column = leaf_columns s c.args.keys.now.keys c.args.place c.args.table c.own_set-used.result.0 c.leaf_node-node.result.0
-    c.leaf_state-state.result.view (shown_columns c.move_plain-columns.result) made
+    c.leaf_at-state.result.view (shown_columns c.move_plain-columns.result) made
     (c.own_set-used.ensures.used ∙ sym (used_is s c.leaf_node-node.result.0 c.args.table.table c.args.job.now.ready c.leaf_node-node.ensures))
-    (ap (λ (st : State). st.view.enc.0) c.leaf_state-state.ensures.answers
+    (ap (λ (st : State). st.view.enc.0) c.leaf_at-state.ensures.answers
     ∙ ap (λ u. bit_and u c.args.job.now.policy.now.rest.0) (sym c.own_set-used.ensures.used)) in
     record {
-      sealed = sealed_as_viewed s c.leaf_node-node.result.0 c.leaf_state-state.result.view (shown_columns c.move_plain-columns.result)
-          c.leaf_state-state.ensures.stands.view column;
+      sealed = sealed_as_viewed s c.leaf_node-node.result.0 c.leaf_at-state.result.view (shown_columns c.move_plain-columns.result)
+          c.leaf_at-state.ensures.stands.view column;
     }
 
 pub returns-in-Ok-clause-rows : goal.returns-in-Ok-clause-rows
@@ -66,14 +66,14 @@ returns-in-Ok-clause-of_job c =
     c.requires.schema c.requires.form c.own_set-used.ensures.own c.intersection-sealed.ensures c.difference-plain.ensures
     c.move_plain-columns.ensures.places c.in-Ok.ensures c.move_plain-columns.ensures.moved in
     let column = leaf_columns s c.args.keys.now.keys c.args.place c.args.table c.own_set-used.result.0 c.leaf_node-node.result.0
-    c.leaf_state-state.result.view (shown_columns c.move_plain-columns.result) made
+    c.leaf_at-state.result.view (shown_columns c.move_plain-columns.result) made
     (c.own_set-used.ensures.used ∙ sym (used_is s c.leaf_node-node.result.0 c.args.table.table c.args.job.now.ready c.leaf_node-node.ensures))
-    (ap (λ (st : State). st.view.enc.0) c.leaf_state-state.ensures.answers
+    (ap (λ (st : State). st.view.enc.0) c.leaf_at-state.ensures.answers
     ∙ ap (λ u. bit_and u c.args.job.now.policy.now.rest.0) (sym c.own_set-used.ensures.used)) in
     let found = found_is s c.leaf_node-node.result.0 c.args.table.table c.args.job.now.ready c.leaf_node-node.ensures in
     record {
       node = found.below;
-      state = c.leaf_state-state.ensures.stands;
+      state = c.leaf_at-state.ensures.stands;
       column = column;
       counted = sym (leaf_uncounted s c.leaf_node-node.result.0 c.args.table.table c.args.job.now.ready c.leaf_node-node.ensures);
     }

@@ -1,9 +1,9 @@
 use Rattle.std.proofs.Common.{◌≡◌, ◌≤◌, drop, length, []}
 use Rattle.std.specs.List.{AllByRecursion}
 use Rattle.extended_plan.specs.Job.{setting_of}
-use Rattle.extended_plan.specs.Room.{room_of}
-use Rattle.extended_plan.specs.inside.Slots.{IsSlot, slots_of, slots_outcome}
-use Rattle.extended_plan.proofs.check.check_steps_in.Given as goal
+use Rattle.step_check.specs.Room.{room_of}
+use Rattle.step_check.specs.inside.Slots.{IsSlot, slots_of, slots_outcome}
+use Rattle.step_check.proofs.check.check_steps_in.Given as goal
 
 -- the steps that are left decide, by the tables that the earlier ones left
 abbrev pub invariant-loop-at : goal.invariant-loop-at

@@ -1,9 +1,9 @@
 use Rattle.std.proofs.Common.{◌+◌, drop, rules, sym, ◌∙◌, ap, arith}
 use Rattle.extended_plan.specs.Job.{setting_of}
-use Rattle.extended_plan.specs.inside.Slots.{slots_end, slots_of, slots_outcome}
-use Rattle.extended_plan.proofs.PassLaws.{steps-end, steps-more, steps-stop}
-use Rattle.extended_plan.proofs.SlotLaws.{same_outcome}
-use Rattle.extended_plan.proofs.check.check_steps_in.Goals as goal
+use Rattle.step_check.specs.inside.Slots.{slots_end, slots_of, slots_outcome}
+use Rattle.step_check.proofs.PassLaws.{steps-end, steps-more, steps-stop}
+use Rattle.step_check.proofs.SlotLaws.{same_outcome}
+use Rattle.step_check.proofs.check.check_steps_in.Goals as goal
 
 pub returns-in-Err-clause-found : goal.returns-in-Err-clause-found
 returns-in-Err-clause-found c =

@@ -9,8 +9,8 @@ use Rattle.mq_base.specs.declared.plan.Step.TheVariants as step
 use Rattle.cost_model.specs.Costs.{cut, step_work}
 use Rattle.policy_base.specs.Accepted.{plain_of, sealed_of}
 use Rattle.view_authority.specs.Breaches.{breach}
-use Rattle.extended_plan.specs.declared.stack.Slot.{Slot}
-use Rattle.extended_plan.specs.declared.stack.StepStack.{StepStack}
+use Rattle.step_check.specs.declared.stack.Slot.{Slot}
+use Rattle.step_check.specs.declared.stack.StepStack.{StepStack}
 use Rattle.extended_plan.specs.declared.state.PlanTotals.{PlanTotals}
 use Rattle.extended_plan.specs.declared.state.State.{State}
 use Rattle.extended_plan.specs.declared.step_no.StepNo.{StepNo}

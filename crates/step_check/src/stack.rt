@@ -1,8 +1,8 @@
 ghost use Rattle.std.specs.Prelude.{◌≡◌, ◌<◌, ◌≤◌, [], ◌∷◌, length, IfOk};
-ghost use Rattle.extended_plan.specs.Room.{room_of};
-ghost use Rattle.extended_plan.specs.inside.Slots.{Takes, slots_of};
+ghost use Rattle.step_check.specs.Room.{room_of};
+ghost use Rattle.step_check.specs.inside.Slots.{Takes, slots_of};
 
-use crate::state::State;
+use extended_plan::State;
 use mq_base::{NoMemory, NodeId};
 use std::alloc::Global;
 

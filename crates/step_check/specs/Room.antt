@@ -1,11 +1,11 @@
 -- The room of a stack that is lent to a check of steps, and what the answer of such a check says. docs/MODEL.md, "Step lists", tells
 -- it in prose.
 use Rattle.std.specs.Prelude.{◌≡◌, ℕ, Result, Ok, Err, vec_capacity}
-use Rattle.extended_plan.specs.declared.stack.StepStack.{StepStack}
+use Rattle.step_check.specs.declared.stack.StepStack.{StepStack}
 use Rattle.extended_plan.specs.declared.state.PlanTotals.{PlanTotals}
 use Rattle.extended_plan.specs.declared.step_no.StepNo.{StepNo}
-use Rattle.extended_plan.specs.declared.step_no.StepsNo.{StepsNo}
-use Rattle.extended_plan.specs.declared.step_no.StepsNo.TheVariants.{Refused, NoMemory}
+use Rattle.step_check.specs.declared.steps_no.StepsNo.{StepsNo}
+use Rattle.step_check.specs.declared.steps_no.StepsNo.TheVariants.{Refused, NoMemory}
 
 -- for how many tables a stack has room
 abbrev pub room_of : StepStack → ℕ

@@ -19,7 +19,7 @@ use Rattle.relation_profile.specs.Runnable.{run_dec, run_enc, run_one, run_two, 
 use Rattle.relation_profile.specs.Steps.{after_dec, after_enc, after_one, after_two}
 use Rattle.relation_profile.specs.View.{view_of}
 use Rattle.view_authority.specs.Breaches.{breach}
-use Rattle.extended_plan.specs.declared.stack.Slot.{Slot}
+use Rattle.step_check.specs.declared.stack.Slot.{Slot}
 use Rattle.extended_plan.specs.declared.state.State.{State}
 use Rattle.extended_plan.specs.declared.step_no.StepWhy.{StepWhy}
 use Rattle.extended_plan.specs.declared.step_no.StepWhy.TheVariants.{NotThePlan, NotRunnable, Breach, NotTheGoal}
@@ -32,7 +32,7 @@ use Rattle.extended_plan.specs.StepList.{breach_of, end_fault, is_root, outcome_
 use Rattle.extended_plan.specs.Term.{Term, Leaf, Enc, Dec, Send, Un, Bin, holder, node_of, stands_on, stands_on_both}
 use Rattle.extended_plan.specs.Validity.{authorised, is_held, may_get, profile, runnable}
 use Rattle.extended_plan.specs.inside.Ran.{at_holder, ran}
-use Rattle.extended_plan.specs.inside.Slots.{above, breach_at, last_slot, leaf_at, one_slot, passed, placed, slots_outcome, stepped, two_slot}
+use Rattle.step_check.specs.inside.Slots.{above, breach_at, last_slot, leaf_at, one_slot, passed, placed, slots_outcome, stepped, two_slot}
 use Rattle.extended_plan.proofs.ListLaws.{clear_held}
 use Rattle.extended_plan.proofs.PlaceLaws.{one_operand, two_operands}
 use Rattle.extended_plan.proofs.ViewLaws.{fits}

@@ -2,10 +2,10 @@
 use Rattle.std.proofs.Common.{◌≡◌, ℕ, suc, ◌+◌, ◌<◌, ◌≤◌, List, length, get_or, drop, Result, Ok, Err, sym, ◌∙◌, ap, add-one}
 use Rattle.std.proofs.lemmas.List.{drop_all, drop_more}
 use Rattle.mq_base.specs.declared.plan.Step.{Step}
-use Rattle.extended_plan.specs.declared.stack.Slot.{Slot}
+use Rattle.step_check.specs.declared.stack.Slot.{Slot}
 use Rattle.extended_plan.specs.declared.step_no.StepWhy.{StepWhy}
 use Rattle.extended_plan.specs.Setting.{Setting}
-use Rattle.extended_plan.specs.inside.Slots.{passed, slots_after, slots_end, slots_outcome}
+use Rattle.step_check.specs.inside.Slots.{passed, slots_after, slots_end, slots_outcome}
 
 -- one step more, by what it makes of the tables
 step-passed : (s : Setting) (slots : List Slot) (steps : List Step) (at : ℕ) (d : Step) (made : Result (List Slot) StepWhy) → at < length steps

@@ -12,11 +12,11 @@ use Rattle.plan_algebra.specs.declared.kind.Kind.TheVariants as kind
 use Rattle.plan_algebra.specs.Facts.{node_at}
 use Rattle.plan_algebra.specs.Kinds.{kind_of}
 use Rattle.plan_algebra.specs.Nodes.{leaf_node}
-use Rattle.extended_plan.specs.declared.stack.Slot.{Slot}
+use Rattle.step_check.specs.declared.stack.Slot.{Slot}
 use Rattle.extended_plan.specs.Job.{AreOperands, IsOperand, IsStateAt, IsStepAt}
 use Rattle.extended_plan.specs.Setting.{Setting, kind_at}
 use Rattle.extended_plan.specs.Term.{stands_on, stands_on_both}
-use Rattle.extended_plan.specs.inside.Slots.{IsSlot}
+use Rattle.step_check.specs.inside.Slots.{IsSlot}
 use Rattle.extended_plan.proofs.PlaceLaws.{node_below}
 
 -- a node that the plan does not have counts as a leaf

@@ -2,18 +2,16 @@ ghost use Rattle.std.specs.Prelude.{◌≡◌, ◌^◌, ◌<◌, ◌≤◌, leng
 ghost use Rattle.std.specs.List.{AllByRecursion};
 ghost use Rattle.extended_plan.specs.Certificate as certificate;
 ghost use Rattle.extended_plan.specs.Job.{IsStateAt, IsStepAt, setting_of};
-ghost use Rattle.extended_plan.specs.Room.{IsToldOf, room_of};
+ghost use Rattle.step_check.specs.Room.{IsToldOf, room_of};
 ghost use Rattle.extended_plan.specs.Setting as setting;
 ghost use Rattle.extended_plan.specs.StepList.{steps_outcome};
 ghost use Rattle.extended_plan.specs.Term.{stands_on, stands_on_both};
-ghost use Rattle.extended_plan.specs.inside.Slots as slots;
-ghost use Rattle.extended_plan.specs.inside.Slots.{IsSlot, above, slots_of};
+ghost use Rattle.step_check.specs.inside.Slots as slots;
+ghost use Rattle.step_check.specs.inside.Slots.{IsSlot, above, slots_of};
 
-use crate::job::Job;
 use crate::stack::{Slot, StepStack};
-use crate::state::{PlanTotals, State};
-use crate::step::{leaf_at, leaf_of, run_step, work_of};
-use crate::step_no::{StepNo, StepWhy, StepsNo};
+use crate::steps_no::StepsNo;
+use extended_plan::{Job, PlanTotals, State, StepNo, StepWhy, leaf_at, leaf_of, run_step, work_of};
 use mq_base::{NodeId, Step, TableId};
 use plan_algebra::Kind;
 use std::alloc::Global;

@@ -1,0 +1,4 @@
+pub mod StackLaws
+pub mod SlotLaws
+pub mod PassLaws
+pub mod AtLaws
