@@ -3,7 +3,8 @@ ghost use Rattle.std.specs.Prelude.{◌≤◌, length};
 
 use mq_base::{NoMemory, Text};
 use query_bind::{BindCode, BindNo};
-use sql_reader::{SqlNo, print_query, read_query};
+use query_print::print_query;
+use sql_reader::{SqlNo, read_query};
 use std::alloc::Global;
 use std::process::Abort;
 use std::test::Fail;

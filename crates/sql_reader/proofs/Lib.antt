@@ -1,10 +1,3 @@
-pub mod PrintLaws
-pub mod SpellLexing
-pub mod SpellPhrases
-pub mod SpellNumbers
-pub mod SpellTokens
-pub mod SpellParts
-pub mod SpellQuery
 pub mod Examples
 pub mod WritableLaws
 pub mod LoopLaws

@@ -1,5 +1,5 @@
 -- To be read first: `Reading` says what `read_query` promises, `Grammar` has the productions that it rests on, and `Law`
--- says that reading by the grammar is right and unique. `Writable`, `Spelling` and `Placeless` say what `print_query` promises.
+-- says that reading by the grammar is right and unique. `Writable` says of which queries a text can be written.
 pub mod Reading
 pub mod Grammar
 pub mod Law
@@ -11,6 +11,4 @@ pub mod Rules
 pub mod Phrases
 pub mod Readers
 pub mod Writable
-pub mod Spelling
-pub mod Placeless
 pub mod inside

@@ -1,5 +1,5 @@
-//! The grammar of queries, both ways: the query that a text is, with names and texts as slices of it, or the first
-//! refusal; and a query written in its canonical spelling. It stands on the tokens, and knows no schema.
+//! The grammar of queries: the query that a text is, with names and texts as slices of it, or the first refusal. It stands
+//! on the tokens, and knows no schema.
 #![tactic(auto)]
 
 mod conditions;
@@ -8,7 +8,6 @@ mod items;
 mod law;
 mod lists;
 mod mark;
-mod print;
 mod raw;
 mod reached;
 mod reader;
@@ -18,7 +17,6 @@ mod stop;
 mod terminals;
 
 pub use law::grammar_law;
-pub use print::print_query;
 pub use raw::{RawCol, RawCond, RawHaving, RawItem, RawLit, RawQuery, RawSide, RawSource};
 pub use reader::read_query;
 pub use refusal::SqlNo;
