@@ -1,6 +1,7 @@
 -- The end of a command `run`, from what the search and the run of a plan answer.
 use Rattle.std.proofs.Common.{◌≡◌, ℕ, ◌<◌, List, [], ◌++◌, Result, Ok, Err, IfOk, refl, ap, ◌∙◌, subst}
 use Rattle.assign_table.specs.Found.{HasFew, IsLeastPlan, most_cost}
+use Rattle.command_input.specs.declared.task.RunTask.{RunTask}
 use Rattle.extended_plan.specs.declared.job.Job.{Job}
 use Rattle.extended_plan.specs.Job.{IsJobOf, setting_of}
 use Rattle.extended_plan.specs.Parts.{AreClustersOf, AreEstimatesOf, IsPlanOf, setting_by}
@@ -16,15 +17,14 @@ use Rattle.policy_base.specs.declared.policy.Policy.{Policy}
 use Rattle.policy_base.specs.declared.prices.Prices.{Prices}
 use Rattle.row_algebra.specs.Contents.{contents_of}
 use Rattle.row_algebra.specs.Meaning.{query_rows}
+use Rattle.run_report.specs.Answer.{answer_under}
+use Rattle.run_report.specs.Names.{item_names}
+use Rattle.run_report.specs.PlanLine.{plan_line}
+use Rattle.run_report.specs.Report.{cost_line}
 use Rattle.planner_cli.specs.declared.ends.End.{End}
 use Rattle.planner_cli.specs.declared.status.Status.{Status}
 use Rattle.planner_cli.specs.declared.status.Status.TheVariants as status
-use Rattle.planner_cli.specs.declared.task.RunTask.{RunTask}
-use Rattle.planner_cli.specs.Answer.{answer_under}
 use Rattle.planner_cli.specs.Ends.{EndsUnder, IsSettingOf, RunEnds, planned, wide}
-use Rattle.planner_cli.specs.Names.{item_names}
-use Rattle.planner_cli.specs.PlanLine.{plan_line}
-use Rattle.planner_cli.specs.Report.{cost_line}
 
 -- a least plan was run to its end, and its rows are written
 pub ends_planned : (s : Setting) (q : Query) (tables : List PlainTable) (steps : List Step) (least : ℕ) (rows : List (List Value)) (text : List ℕ)

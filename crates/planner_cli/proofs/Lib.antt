@@ -1,10 +1,3 @@
-pub mod Rows
-pub mod PlanLines
-pub mod Knowing
-pub mod Judging
-pub mod Numbers
-pub mod Tables
-pub mod Tasks
 pub mod Settings
 pub mod Ending
 pub mod Telling

@@ -3,6 +3,8 @@ use Rattle.std.proofs.Common.{◌≡◌, ℕ, zero, suc, ◌-◌, ◌<◌, ◌�
 use Rattle.std.specs.List.{range_with_len}
 use Rattle.std.proofs.lemmas.List.Elements.{All-weaker}
 use Rattle.assign_table.specs.Found.{HasFew}
+use Rattle.command_input.specs.declared.task.RunTask.{RunTask}
+use Rattle.command_input.specs.declared.task.Task.TheVariants as task
 use Rattle.cost_model.specs.Estimates.{estimates_of, padded}
 use Rattle.extended_plan.proofs.ViewLaws.{node_is}
 use Rattle.extended_plan.specs.Setting.{Setting, root}
@@ -30,8 +32,6 @@ use Rattle.policy_base.specs.declared.prices.Prices.{Prices}
 use Rattle.row_algebra.specs.Contents.{contents_of}
 use Rattle.planner_cli.specs.declared.status.Status.{Status}
 use Rattle.planner_cli.specs.declared.status.Status.TheVariants as status
-use Rattle.planner_cli.specs.declared.task.RunTask.{RunTask}
-use Rattle.planner_cli.specs.declared.task.Task.TheVariants as task
 use Rattle.planner_cli.specs.Ends.{IsSettingOf, EndsUnder, planned, unplanned, crowded, dear, wide, HaveOneStatus}
 
 -- the facts of a node are determined by those of the nodes before it

@@ -6,24 +6,25 @@ use Rattle.std.proofs.lemmas.List.{append-nil, map-append}
 use Rattle.std.proofs.lemmas.List.Elements.{All-nil, All-cons, All-head, All-tail}
 use Rattle.std.proofs.lemmas.Slice.Eq.{bytes_eq-Decides}
 use Rattle.base_laws.proofs.ListLaws.{All-first, All-second}
+use Rattle.command_input.specs.declared.fault.FileRole.{FileRole}
+use Rattle.command_input.specs.declared.load_no.LoadNo.{LoadNo}
+use Rattle.command_input.specs.declared.load_no.LoadNo.TheVariants.{Refused, Failed, NoMemory}
+use Rattle.command_input.specs.declared.task.Task.{Task}
+use Rattle.command_input.specs.declared.task.Task.TheVariants as task
+use Rattle.command_input.specs.Files.{Lookup, role_number, Agrees, hidden}
+use Rattle.command_input.specs.Input.{absent, refused, wrong_words, stopped, accepted, task_of, given, commanded, input_of}
+use Rattle.command_input.specs.inside.Loading.{Seen, Gives, AreHeld, AreApart, Knows, Loaded}
+use Rattle.command_input.specs.Words.{Command, command_of}
 use Rattle.extended_plan.specs.Setting.{Setting}
 use Rattle.mq_base.specs.BoundQuery.{AreDistinct}
 use Rattle.mq_base.specs.declared.query.Query.{Query}
 use Rattle.mq_base.specs.declared.table.PlainTable.{PlainTable}
 use Rattle.outside_io.specs.Outside.{Files, ShelfState, SinkState, IsAbsent, Rose, Appends, content_of}
-use Rattle.planner_cli.specs.declared.load_no.LoadNo.{LoadNo}
-use Rattle.planner_cli.specs.declared.load_no.LoadNo.TheVariants.{Refused, Failed, NoMemory}
-use Rattle.planner_cli.specs.declared.status.FileRole.{FileRole}
 use Rattle.planner_cli.specs.declared.status.Status.{Status}
 use Rattle.planner_cli.specs.declared.status.Status.TheVariants as status
-use Rattle.planner_cli.specs.declared.task.Task.{Task}
-use Rattle.planner_cli.specs.declared.task.Task.TheVariants as task
 use Rattle.planner_cli.specs.Ends.{EndsUnder, planned, unplanned, crowded, dear, wide, Ends}
-use Rattle.planner_cli.specs.Files.{Lookup, role_number, Agrees, hidden}
-use Rattle.planner_cli.specs.Input.{absent, refused, wrong_words, stopped, accepted, task_of, given, commanded, input_of}
-use Rattle.planner_cli.specs.inside.Loading.{Seen, Gives, AreHeld, AreApart, Knows, Loaded, status_of}
+use Rattle.planner_cli.specs.inside.Unloaded.{status_of}
 use Rattle.planner_cli.specs.Run.{ForTask, AppendsEnd, AppendsCut, IsDue, is_end, is_silent, IsUnread, Tells}
-use Rattle.planner_cli.specs.Words.{Command, command_of}
 
 abbrev role_of : Seen → FileRole
 role_of s = s.file

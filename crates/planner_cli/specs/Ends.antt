@@ -1,6 +1,9 @@
 -- How a command may end: with which status and which text. docs/FORMATS.md, "Report" and "Statuses", tell it in prose.
 use Rattle.std.specs.Prelude.{◌≡◌, ℕ, ◌<◌, List, []}
 use Rattle.assign_table.specs.Found.{CostsTooMuch, HasFew, IsLeastPlan, most_cost}
+use Rattle.command_input.specs.declared.task.RunTask.{RunTask}
+use Rattle.command_input.specs.declared.task.Task.{Task}
+use Rattle.command_input.specs.declared.task.Task.TheVariants as task
 use Rattle.cost_model.specs.declared.estimated.Estimates.{Estimates}
 use Rattle.extended_plan.specs.Parts.{AreClustersOf, AreEstimatesOf, IsPlanOf, setting_by}
 use Rattle.extended_plan.specs.Setting.{Setting}
@@ -15,12 +18,9 @@ use Rattle.mq_base.specs.declared.table.PlainTable.{PlainTable}
 use Rattle.plan_algebra.specs.declared.plan_facts.PlanFacts.{PlanFacts}
 use Rattle.plan_runner.specs.Running.{IsFirstWide, IsNarrow}
 use Rattle.row_algebra.specs.Contents.{Contents, contents_of}
+use Rattle.run_report.specs.Report.{report, none_report}
 use Rattle.planner_cli.specs.declared.status.Status.{Status}
 use Rattle.planner_cli.specs.declared.status.Status.TheVariants as status
-use Rattle.planner_cli.specs.declared.task.RunTask.{RunTask}
-use Rattle.planner_cli.specs.declared.task.Task.{Task}
-use Rattle.planner_cli.specs.declared.task.Task.TheVariants as task
-use Rattle.planner_cli.specs.Report.{report, none_report}
 
 -- the setting of a task: that of the plan of its query, with the facts, the clusters and the estimates of the plan
 pub record IsSettingOf (t : RunTask) (s : Setting) : Type 0 where

@@ -1,13 +1,4 @@
 pub mod Status
-pub mod Words
-pub mod Commands
-pub mod Names
-pub mod PlanLine
-pub mod Answer
-pub mod CsvWriting
-pub mod Files
-pub mod Input
-pub mod Report
 pub mod Ends
 pub mod Run
 pub mod inside

@@ -1,14 +1,14 @@
 -- What the status of the top call says, for every command. docs/ARCHITECTURE.md, "The top call", tells it in prose.
 use Rattle.std.specs.Prelude.{◌≡◌, ◌⊎◌, ℕ, Bool, true, false, List, Option, Some}
+use Rattle.command_input.specs.declared.fault.FileRole.{FileRole}
+use Rattle.command_input.specs.declared.fault.InputFault.{InputFault}
+use Rattle.command_input.specs.declared.task.Task.{Task}
+use Rattle.command_input.specs.Files.{Lookup, Agrees, hidden}
+use Rattle.command_input.specs.Input.{absent, refused, Input, wrong_words, stopped, accepted, input_of}
 use Rattle.outside_io.specs.Outside.{ShelfState, SinkState, Appends, AppendsFront, Rose}
-use Rattle.planner_cli.specs.declared.status.FileRole.{FileRole}
-use Rattle.planner_cli.specs.declared.status.InputFault.{InputFault}
 use Rattle.planner_cli.specs.declared.status.Status.{Status}
 use Rattle.planner_cli.specs.declared.status.Status.TheVariants as status
-use Rattle.planner_cli.specs.declared.task.Task.{Task}
 use Rattle.planner_cli.specs.Ends.{Ends}
-use Rattle.planner_cli.specs.Files.{Lookup, Agrees, hidden}
-use Rattle.planner_cli.specs.Input.{absent, refused, Input, wrong_words, stopped, accepted, input_of}
 
 -- a fact of the task that the input is, where it is accepted; there is none for another input
 abbrev pub ForTask : Input → (Task → Type 0) → Type 0

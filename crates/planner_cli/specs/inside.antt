@@ -1,2 +1,2 @@
 -- What contracts inside the crate say. No promise of the top call cites these.
-pub mod Loading
+pub mod Unloaded

@@ -1,6 +1,7 @@
 ghost use Rattle.std.specs.Prelude.{◌≡◌, ◌<◌, ◌≤◌, [], length, map, IfOk};
 ghost use Rattle.std.specs.List.{AllByRecursion};
 ghost use Rattle.assign_table.specs.Found.{HasFew, IsLeastPlan, most_cost};
+ghost use Rattle.command_input.specs.inside.Loading.{IsSoundRun, IsSound};
 ghost use Rattle.extended_plan.specs.Job.{setting_of};
 ghost use Rattle.mq_base.specs.BoundQuery.{IsBound};
 ghost use Rattle.mq_base.specs.Table.{HasForm};
@@ -8,12 +9,10 @@ ghost use Rattle.mq_base.specs.declared.table.PlainTable.{PlainTable};
 ghost use Rattle.plan_algebra.specs.Meaning.{MeansQuery};
 ghost use Rattle.policy_base.specs.Accepted.{IsAccepted};
 ghost use Rattle.planner_cli.specs.Ends.{EndsUnder, RunEnds, Ends, HaveOneStatus};
-ghost use Rattle.planner_cli.specs.inside.Loading.{IsSoundRun, IsSound};
 
-use crate::report;
 use crate::status::Status;
-use crate::task::{RunTask, Task};
 use assign_table::{SearchNo, search};
+use command_input::{RunTask, Task};
 use extended_plan::{Found, Job};
 use mq_base::{NoMemory, PlainTable, Seq, Step};
 use plan_runner::{RunStop, run_plan};
@@ -62,7 +61,7 @@ fn planned_end(
             let items = job.query.items.as_slice();
             Ok(End {
                 status: Status::Done,
-                text: report::text(alloc, job.policy, items, steps, cost, rows)?,
+                text: run_report::text(alloc, job.policy, items, steps, cost, rows)?,
             })
         }
         Err(RunStop::RowRange(node)) => Ok(silent(alloc, Status::RowRange(node))),
@@ -94,7 +93,7 @@ fn job_end(
         ) => { planned_end(alloc, job, seed, tables, steps.as_slice(), cost) }
         Ok(Found::Nothing { labels: _ }) => Ok(End {
             status: Status::NoPlan,
-            text: report::none_text(alloc)?,
+            text: run_report::none_text(alloc)?,
         }),
         Err(SearchNo::TooManyStates { node }) => Ok(silent(alloc, Status::TooManyStates(node))),
         Err(SearchNo::CostRange) => Ok(silent(alloc, Status::CostRange)),

@@ -2,20 +2,11 @@
 //! its contract is the promise of the whole.
 #![tactic(auto)]
 
-mod answer;
-mod csv_text;
 mod ends;
-mod files;
-mod load_no;
-mod names;
 mod perform;
-mod plan_line;
-mod query;
-mod report;
 mod status;
-mod task;
-mod words;
 
+pub use command_input::{FileRole, InputFault};
 pub use ends::one_status;
 pub use perform::run;
-pub use status::{FileRole, InputFault, Status};
+pub use status::Status;

@@ -1,16 +1,15 @@
 ghost use Rattle.std.specs.Prelude.{◌≡◌, ◌<◌, ◌↔◌, [], true, None, map, IfOk, OnOk, IsErrOf};
 ghost use Rattle.std.specs.String.{string_bytes};
+ghost use Rattle.command_input.specs.declared.fault.InputFault.{InputFault};
+ghost use Rattle.command_input.specs.Words.{command_of};
+ghost use Rattle.command_input.specs.Input.{most};
+ghost use Rattle.command_input.specs.inside.Loading.{IsSound};
 ghost use Rattle.outside_io.specs.Outside.{Appends, AppendsFront, Rose};
-ghost use Rattle.planner_cli.specs.declared.status.InputFault.{InputFault};
-ghost use Rattle.planner_cli.specs.Words.{command_of};
-ghost use Rattle.planner_cli.specs.Input.{most};
-ghost use Rattle.planner_cli.specs.inside.Loading.{IsSound};
 ghost use Rattle.planner_cli.specs.Run.{Tells, AppendsEnd, AppendsCut, is_silent};
 
 use crate::ends::end_of;
-use crate::status::Status;
-use crate::task::Task;
-use crate::{files, words};
+use crate::status::{Status, status_of};
+use command_input::{Task, load, parse};
 use outside_io::{Shelf, Sink, SinkNo};
 use std::alloc::Global;
 
@@ -68,15 +67,15 @@ pub fn run<H: Shelf, K: Sink>(
     ensures steady_sink { (K.state sink.old).steady ≡ true → result ≡ Status.WriteFault → ⊥ }
     ensures held_kept { (H.state shelf.new).held ≡ (H.state shelf.old).held }
 {
-    let Some(command) = words::parse(words) else {
+    let Some(command) = parse(words) else {
         return Status::Words;
     };
-    match files::load(alloc, shelf, command) {
+    match load(alloc, shelf, command) {
         Ok(task) => match finish(alloc, task, sink) {
             Ok(status) => status,
             Err(SinkNo::Failed) => Status::WriteFault,
             Err(SinkNo::NoMemory) => Status::NoMemory,
         },
-        Err(error) => error.status(),
+        Err(error) => status_of(error),
     }
 }

@@ -1,41 +1,10 @@
 ghost use Rattle.std.specs.Prelude.{◌≡◌};
 ghost use Rattle.planner_cli.specs.Status.{number_of};
+ghost use Rattle.planner_cli.specs.inside.Unloaded.{status_of};
 
-use mq_base::{NodeId, TableId};
+use command_input::{FileRole, InputFault, LoadNo};
+use mq_base::NodeId;
 use std::fmt;
-
-/// A file of a command.
-#[derive(Clone, Copy, Debug, PartialEq, Eq)]
-pub enum FileRole {
-    Policy,
-    Prices,
-    Query,
-    /// The file of a table, named for it.
-    Table(TableId),
-    Cert,
-}
-
-impl fmt::Display for FileRole {
-    fn fmt<W: fmt::Write>(&self, f: &mut fmt::Formatter<W>) -> fmt::Result {
-        match self {
-            FileRole::Policy => f.write_str("policy"),
-            FileRole::Prices => f.write_str("prices"),
-            FileRole::Query => f.write_str("query"),
-            FileRole::Table(table) => write!(f, "table {}", table.0),
-            FileRole::Cert => f.write_str("certificate"),
-        }
-    }
-}
-
-/// The first fault of a file, as docs/FORMATS.md numbers it. A place that a code does not carry is 0.
-/// Code 0 says that the file has more than 67,108,864 bytes.
-#[derive(Clone, Copy, Debug, PartialEq, Eq)]
-pub struct InputFault {
-    pub file: FileRole,
-    pub code: u16,
-    pub at: u64,
-    pub item: u64,
-}
 
 /// How a command ended. docs/FORMATS.md, "Statuses", says when each comes.
 #[derive(Clone, Copy, Debug, PartialEq, Eq)]
@@ -100,5 +69,16 @@ impl fmt::Display for Status {
             Status::NoMemory => f.write_str("no memory"),
             Status::RowRange(node) => write!(f, "row range at node {}", node.0),
         }
+    }
+}
+
+// The status of a command whose files were not loaded.
+pub fn status_of(error: LoadNo) -> Status
+    ensures { result ≡ status_of error }
+{
+    match error {
+        LoadNo::Refused(fault) => Status::Input(fault),
+        LoadNo::Failed(file) => Status::ReadFault(file),
+        LoadNo::NoMemory => Status::NoMemory,
     }
 }

@@ -1,6 +1,6 @@
 use Rattle.std.proofs.Common.{map, Err, ap, sym}
 use Rattle.std.specs.String.{string_bytes}
-use Rattle.planner_cli.specs.Commands.{command_in}
+use Rattle.command_input.specs.Commands.{command_in}
 use Rattle.planner_cli.proofs.Telling.{tells_words, tells_stopped, tells_end, tells_cut, tells_wanting}
 use Rattle.planner_cli.proofs.perform.run.Goals as goal
 
@@ -30,6 +30,6 @@ returns-in-Err-NoMemory-clause-told g c =
 
 pub returns-in-Err-clause-told : goal.returns-in-Err-clause-told
 returns-in-Err-clause-told g c =
-    rw c.status.ensures
+    rw c.status_of.ensures
     (tells_stopped (map string_bytes c.args.words.now) (command_in c.in-Some.command) (g.H.Shelf.state c.args.shelf.now)
     (g.H.Shelf.state c.load.new.shelf) (g.K.Sink.state c.args.sink.now) c.in-Err.error (sym c.in-Some.ensures) c.in-Err.ensures.loaded)

@@ -1,0 +1,5 @@
+pub mod Knowing
+pub mod Judging
+pub mod Numbers
+pub mod Tables
+pub mod Tasks

@@ -1,0 +1,5 @@
+pub mod Words
+pub mod Commands
+pub mod Files
+pub mod Input
+pub mod inside

@@ -1,5 +1,0 @@
-use Rattle.planner_cli.proofs.Rows.{rows_sorted}
-use Rattle.planner_cli.proofs.answer.sort_rows.Goals as goal
-
-pub returns : goal.returns
-returns c = rows_sorted _ _ c.in_ok-sort.ensures.permutation c.in_ok-sort.ensures.sorted

@@ -1,6 +1,0 @@
-use Rattle.std.proofs.Common.{◌≡◌, map, take}
-use Rattle.planner_cli.specs.Names.{item_names}
-use Rattle.planner_cli.proofs.names.items.Given as goal
-
-abbrev pub invariant-items : goal.invariant-items
-invariant-items l = map (λ n. n.now) l.names.items ≡ item_names l.policy.schema (take l.selected-index l.items)
