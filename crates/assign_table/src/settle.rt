@@ -9,7 +9,7 @@ ghost use Rattle.extended_plan.specs.Gains.{across, send_gain, step_gain};
 ghost use Rattle.extended_plan.specs.Job.{IsHeldAt, setting_of, told};
 ghost use Rattle.assign_table.specs.declared.table.TableNo.TheVariants.{Full};
 ghost use Rattle.assign_table.specs.inside.Cells.{IsListedOn};
-ghost use Rattle.assign_table.specs.inside.Crossing.{IsTried, near_label, crossing};
+ghost use Rattle.assign_table.specs.inside.Crossing.{IsTried, crossed_label, crossing};
 ghost use Rattle.assign_table.specs.inside.Neighbours.{AreNear};
 ghost use Rattle.assign_table.specs.inside.Order.{IsOrdered};
 ghost use Rattle.assign_table.specs.inside.Settling.{AreKnown, AreTried, Continues, IsClosedOn, IsDone, IsFront, IsGainListed, IsTurn, ShowsCrowd, ShowsCrowdFrom, ShowsCrowdOver, Stays};
@@ -165,7 +165,7 @@ fn offer_across(
     requires front { IsFront table.old from.now }
     ensures front { OnOk result (IsFront table.new from.now) }
     ensures continues { OnOk result (Continues (setting_of job.now) node.0 room at from.now (sheet_of table.old) (sheet_of table.new)) }
-    ensures listed { OnOk result (IsListedOn (sheet_of table.new).cells (across a.0 from.now.state) (near_label (setting_of job.now) node.0 a.0 from.now)) }
+    ensures listed { OnOk result (IsListedOn (sheet_of table.new).cells (across a.0 from.now.state) (crossed_label (setting_of job.now) node.0 a.0 from.now)) }
     ensures full { result ≡ Err Full → ShowsCrowd (setting_of job.now) node.0 room at from.now (sheet_of table.old) }
 {
     let step = crypt_of(&from.state, a);
