@@ -9,7 +9,7 @@ use crate::given::Branch;
 use crate::premises::{is_runnable, is_runnable_on_two};
 use crate::told::told;
 use column_table::RunNo;
-use extended_plan::Job;
+use extended_plan::{Job, leaf_of};
 use key_clusters::Keys;
 use mq_base::{NodeId, Step, TableId};
 use provider_engine::{Held, run_binary, run_leaf, run_unary};
