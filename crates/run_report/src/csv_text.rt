@@ -16,11 +16,11 @@ fn open(text: Vec<u8>) -> Writer<Vec<u8>>
 }
 
 // Writes a record at the end.
-fn put(writer: &mut Writer<Vec<u8>>, record: &ByteRecord) -> Result<(), NoMemory>
+fn put(writer: &mut Writer<Vec<u8>>, fields: &ByteRecord) -> Result<(), NoMemory>
     ensures { OnOk result ((bytes : List ℕ) → IsWriting writer.old bytes
-        → IsWriting writer.new (bytes ++ row_text default_writer (fields_of record.now))) }
+        → IsWriting writer.new (bytes ++ row_text default_writer (fields_of fields.now))) }
 {
-    match writer.write_byte_record(record) {
+    match writer.write_byte_record(fields) {
         Ok(()) => Ok(()),
         Err(_) => Err(NoMemory),
     }
@@ -37,25 +37,25 @@ fn close(writer: Writer<Vec<u8>>) -> Result<Vec<u8>, NoMemory>
 }
 
 // Puts a value at the end of a record, as it is written.
-fn push_value(alloc: Global, record: &mut ByteRecord, value: &Value) -> Result<(), NoMemory>
-    requires { partial_of record.old ≡ [] }
-    ensures field { OnOk result (fields_of record.new ≡ fields_of record.old ++ shown value.now ∷ []) }
-    ensures whole { OnOk result (partial_of record.new ≡ []) }
+fn push_value(alloc: Global, fields: &mut ByteRecord, value: &Value) -> Result<(), NoMemory>
+    requires { partial_of fields.old ≡ [] }
+    ensures field { OnOk result (fields_of fields.new ≡ fields_of fields.old ++ shown value.now ∷ []) }
+    ensures whole { OnOk result (partial_of fields.new ≡ []) }
 {
     match value {
-        Value::Int(number) => record.push_field(number.to_string(alloc)?.as_bytes())?,
-        Value::Text(text) => record.push_field(text.as_bytes())?,
+        Value::Int(number) => fields.push_field(number.to_string(alloc)?.as_bytes())?,
+        Value::Text(text) => fields.push_field(text.as_bytes())?,
     }
     Ok(())
 }
 
 // Makes a record that of a row.
-fn fill(alloc: Global, record: &mut ByteRecord, row: &[Value]) -> Result<(), NoMemory>
-    ensures { OnOk result (fields_of record.new ≡ map shown row.now) }
+fn fill(alloc: Global, fields: &mut ByteRecord, row: &[Value]) -> Result<(), NoMemory>
+    ensures { OnOk result (fields_of fields.new ≡ map shown row.now) }
 {
-    record.clear();
+    fields.clear();
     'cells: for value in row {
-        push_value(alloc, record, value)?;
+        push_value(alloc, fields, value)?;
     }
     Ok(())
 }

@@ -4,4 +4,4 @@ use Rattle.run_report.specs.Answer.{shown}
 use Rattle.run_report.proofs.csv_text.fill.Given as goal
 
 abbrev pub invariant-cells : goal.invariant-cells
-invariant-cells l = (fields_of l.record ≡ map shown (take l.value-index l.row)) × (partial_of l.record ≡ [])
+invariant-cells l = (fields_of l.fields ≡ map shown (take l.value-index l.row)) × (partial_of l.fields ≡ [])
