@@ -1,11 +1,15 @@
 -- The first fault in a stated order: what is left decides, once the tests before it have passed.
-use Rattle.std.specs.Prelude.{◌≡◌, ℕ, zero, suc, ◌+◌, ◌<◌, ◌≤◌, Option, Some, None, List, [], ◌∷◌, ◌++◌, Result, Ok, Err}
+use Rattle.std.specs.Prelude.{◌≡◌, ℕ, zero, suc, ◌+◌, ◌<◌, ◌≤◌, Option, Some, None, List, [], ◌∷◌, ◌++◌, Result, Ok, Err, slice_get, option_and_then}
 use Rattle.std.specs.Option.{option_or}
 
 -- the first fault at the places from `at` on, of which n are left
 abbrev pub first_at : {F : Type 0} → (ℕ → Option F) → ℕ → ℕ → Option F
 first_at test at zero = None
 first_at test at (suc n) = option_or (test at) (first_at test (suc at) n)
+
+-- the test of what stands at a place
+abbrev pub test_at : {X F : Type 0} → (X → Option F) → List X → ℕ → Option F
+test_at test items place = option_and_then test (slice_get items place)
 
 -- the first fault of a list of faults and passes
 abbrev pub first_of : {F : Type 0} → List (Option F) → Option F

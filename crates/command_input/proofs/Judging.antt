@@ -15,7 +15,7 @@ use Rattle.command_input.specs.declared.fault.FileRole.TheVariants as role
 use Rattle.command_input.specs.declared.load_no.LoadNo.{LoadNo}
 use Rattle.command_input.specs.declared.load_no.LoadNo.TheVariants.{Refused, Failed, NoMemory}
 use Rattle.command_input.specs.Input.{fault_of, and_then, text_bound, query_read}
-use Rattle.command_input.specs.inside.Loading.{no_of, judged_as, Judges}
+use Rattle.command_input.specs.Loading.{no_of, judged_as, Judges}
 
 -- the refusals of a reader have numbers from 1 on: 0 is the number of a file that is too long
 abbrev pub AreNumbered : {E : Type 0} → (E → Option Refusal) → Type 0

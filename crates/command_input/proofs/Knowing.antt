@@ -13,7 +13,7 @@ use Rattle.command_input.specs.declared.load_no.LoadNo.{LoadNo}
 use Rattle.command_input.specs.declared.load_no.LoadNo.TheVariants.{Refused, Failed, NoMemory}
 use Rattle.command_input.specs.Files.{Lookup}
 use Rattle.command_input.specs.Input.{Stop, absent, refused, most, fault_of, judged, within, opened, and_then}
-use Rattle.command_input.specs.inside.Loading.{Seen, Gives, AreHeld, Knows, Loads, StopsReading, Judges}
+use Rattle.command_input.specs.Loading.{Seen, Gives, AreHeld, Knows, Loads, StopsReading, Judges}
 
 abbrev role_of : Seen → FileRole
 role_of s = s.file

@@ -10,7 +10,7 @@ use Rattle.command_input.specs.declared.fault.FileRole.TheVariants as role
 use Rattle.command_input.specs.declared.load_no.LoadNo.{LoadNo}
 use Rattle.command_input.specs.Files.{Lookup}
 use Rattle.command_input.specs.Input.{Stop, and_then, table_input, tables_input}
-use Rattle.command_input.specs.inside.Loading.{Knows, Loads}
+use Rattle.command_input.specs.Loading.{Knows, Loads}
 use Rattle.command_input.proofs.Knowing.{Knows-then, Knows-before, loads_after, loads_cut}
 
 -- one table more

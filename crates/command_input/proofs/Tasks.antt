@@ -17,7 +17,7 @@ use Rattle.command_input.specs.declared.task.RunTask.{RunTask}
 use Rattle.command_input.specs.declared.task.Task.TheVariants as task
 use Rattle.command_input.specs.Files.{Lookup, role_number}
 use Rattle.command_input.specs.Input.{Stop, policy_input, prices_input, query_input, tables_input, run_task, task_of}
-use Rattle.command_input.specs.inside.Loading.{AreApart, Knows, Loads, Loaded}
+use Rattle.command_input.specs.Loading.{AreApart, Knows, Loads, Loaded}
 use Rattle.command_input.specs.Words.{RunCommand, run}
 use Rattle.command_input.proofs.Knowing.{chained, loads_then, loads_stopped, loads_last}
 

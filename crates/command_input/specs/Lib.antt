@@ -2,4 +2,4 @@ pub mod Words
 pub mod Commands
 pub mod Files
 pub mod Input
-pub mod inside
+pub mod Loading

@@ -9,7 +9,7 @@ ghost use Rattle.policy_base.specs.Accepted.{IsAccepted};
 ghost use Rattle.policy_base.specs.Priced.{IsPriced};
 ghost use Rattle.command_input.specs.Commands.{command_in, run_in};
 ghost use Rattle.command_input.specs.Input.{most, policy_input, prices_input, query_input, table_file, table_input, tables_input, run_task, task_of};
-ghost use Rattle.command_input.specs.inside.Loading.{StopsReading, Loads, Loaded, IsSoundRun, IsSound};
+ghost use Rattle.command_input.specs.Loading.{StopsReading, Loads, Loaded, IsSoundRun, IsSound};
 
 use crate::fault::FileRole;
 use crate::load_no::{LoadNo, judge, refused};

@@ -1,7 +1,7 @@
 ghost use Rattle.std.specs.Prelude.{◌≡◌};
 ghost use Rattle.command_input.specs.declared.load_no.LoadNo.TheVariants as load;
 ghost use Rattle.command_input.specs.Input.{fault_of};
-ghost use Rattle.command_input.specs.inside.Loading.{judged_as};
+ghost use Rattle.command_input.specs.Loading.{judged_as};
 
 use crate::fault::{FileRole, InputFault};
 use mq_base::{NoMemory, Refusal, Refusing};

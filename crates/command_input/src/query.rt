@@ -2,7 +2,7 @@ ghost use Rattle.std.specs.Prelude.{◌≤◌, length, IfOk};
 ghost use Rattle.mq_base.specs.BoundQuery.{IsBound};
 ghost use Rattle.mq_base.specs.Schema.{IsSchema};
 ghost use Rattle.command_input.specs.Input.{query_read, text_bound};
-ghost use Rattle.command_input.specs.inside.Loading.{Judges};
+ghost use Rattle.command_input.specs.Loading.{Judges};
 
 use crate::fault::FileRole;
 use crate::load_no::{LoadNo, judge, refused};

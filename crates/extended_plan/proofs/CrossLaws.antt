@@ -22,7 +22,7 @@ use Rattle.extended_plan.specs.Job.{IsHeldAt}
 use Rattle.extended_plan.specs.Laws.{CryptsAreAcross}
 use Rattle.extended_plan.specs.Setting.{Setting, known_at}
 use Rattle.extended_plan.specs.Validity.{may_hold}
-use Rattle.extended_plan.specs.inside.Ran.{at_holder}
+use Rattle.extended_plan.specs.Ran.{at_holder}
 use Rattle.extended_plan.proofs.GainLaws.{held_parts, worked}
 
 -- ---- the state across an attribute

@@ -22,7 +22,7 @@ use Rattle.extended_plan.specs.Job.{AreOperands, IsOperand, IsStateAt, IsStepAt,
 use Rattle.extended_plan.specs.Ready.{IsReady}
 use Rattle.extended_plan.specs.Setting.{Setting, kind_at, known_at, op_at, schemes}
 use Rattle.extended_plan.specs.Validity.{may_get, may_hold}
-use Rattle.extended_plan.specs.inside.Ran.{at_holder, gained, ran, sent}
+use Rattle.extended_plan.specs.Ran.{at_holder, gained, ran, sent}
 
 -- a view stands at a node for the profile of which it is the view
 abbrev Stands : Setting → ℕ → Option Profile → Type 0

@@ -12,4 +12,4 @@ pub mod Certificate
 pub mod StepList
 pub mod StepListLaws
 pub mod Laws
-pub mod inside
+pub mod Ran

@@ -10,7 +10,7 @@ ghost use Rattle.extended_plan.specs.Setting as setting;
 ghost use Rattle.extended_plan.specs.States.{state};
 ghost use Rattle.extended_plan.specs.Term.{Leaf};
 ghost use Rattle.extended_plan.specs.Validity as validity;
-ghost use Rattle.extended_plan.specs.inside.Ran as ran;
+ghost use Rattle.extended_plan.specs.Ran as ran;
 
 use crate::job::Job;
 use crate::state::State;

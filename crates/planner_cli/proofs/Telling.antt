@@ -13,7 +13,7 @@ use Rattle.command_input.specs.declared.task.Task.{Task}
 use Rattle.command_input.specs.declared.task.Task.TheVariants as task
 use Rattle.command_input.specs.Files.{Lookup, role_number, Agrees, hidden}
 use Rattle.command_input.specs.Input.{absent, refused, wrong_words, stopped, accepted, task_of, given, commanded, input_of}
-use Rattle.command_input.specs.inside.Loading.{Seen, Gives, AreHeld, AreApart, Knows, Loaded}
+use Rattle.command_input.specs.Loading.{Seen, Gives, AreHeld, AreApart, Knows, Loaded}
 use Rattle.command_input.specs.Words.{Command, command_of}
 use Rattle.extended_plan.specs.Setting.{Setting}
 use Rattle.mq_base.specs.BoundQuery.{AreDistinct}

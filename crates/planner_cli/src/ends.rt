@@ -1,7 +1,7 @@
 ghost use Rattle.std.specs.Prelude.{◌≡◌, ◌<◌, ◌≤◌, [], length, map, IfOk};
 ghost use Rattle.std.specs.List.{AllByRecursion};
 ghost use Rattle.assign_table.specs.Found.{HasFew, IsLeastPlan, most_cost};
-ghost use Rattle.command_input.specs.inside.Loading.{IsSoundRun, IsSound};
+ghost use Rattle.command_input.specs.Loading.{IsSoundRun, IsSound};
 ghost use Rattle.extended_plan.specs.Job.{setting_of};
 ghost use Rattle.mq_base.specs.BoundQuery.{IsBound};
 ghost use Rattle.mq_base.specs.Table.{HasForm};

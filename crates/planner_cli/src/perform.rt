@@ -3,7 +3,7 @@ ghost use Rattle.std.specs.String.{string_bytes};
 ghost use Rattle.command_input.specs.declared.fault.InputFault.{InputFault};
 ghost use Rattle.command_input.specs.Words.{command_of};
 ghost use Rattle.command_input.specs.Input.{most};
-ghost use Rattle.command_input.specs.inside.Loading.{IsSound};
+ghost use Rattle.command_input.specs.Loading.{IsSound};
 ghost use Rattle.outside_io.specs.Outside.{Appends, AppendsFront, Rose};
 ghost use Rattle.planner_cli.specs.Run.{Tells, AppendsEnd, AppendsCut, is_silent};
 

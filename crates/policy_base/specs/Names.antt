@@ -1,5 +1,7 @@
--- The names of a policy's tables, attributes and subjects by their ids. docs/FORMATS.md, "Policy file".
-use Rattle.std.specs.Prelude.{ℕ, List, codes, slice_get}
+-- The names of a policy's tables, attributes and subjects by their ids, and whether a text is one of several names.
+-- docs/FORMATS.md, "Policy file".
+use Rattle.std.specs.Prelude.{ℕ, Bool, List, codes, slice_get, bytes_eq}
+use Rattle.std.specs.List.{list_any}
 use Rattle.std.specs.Option.{option_map_or}
 use Rattle.mq_base.specs.declared.ids.AttrId.{AttrId}
 use Rattle.mq_base.specs.declared.ids.SubjectId.{SubjectId}
@@ -18,3 +20,7 @@ attribute_name schema a = option_map_or (λ (info : AttrInfo). info.name) (slice
 
 abbrev pub subject_name : Policy → SubjectId → List ℕ
 subject_name p s = option_map_or (λ (name : List ℕ). name) (slice_get p.subjects s.0) (codes "")
+
+-- whether the text is one of the names
+abbrev pub is_one_of : List ℕ → List (List ℕ) → Bool
+is_one_of text names = list_any (λ name. bytes_eq name text) names

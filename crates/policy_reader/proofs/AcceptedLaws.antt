@@ -15,7 +15,7 @@ use Rattle.policy_reader.specs.declared.raw.RawTable.{RawTable}
 use Rattle.policy_reader.specs.declared.raw.RawPolicy.{RawPolicy}
 use Rattle.policy_reader.specs.declared.refusal.PolicyCode.{PolicyCode}
 use Rattle.policy_reader.specs.declared.refusal.PolicyCode.TheVariants.{UnknownOwner, UnknownSubject}
-use Rattle.policy_reader.specs.Names.{is_one_of}
+use Rattle.policy_base.specs.Names.{is_one_of}
 use Rattle.policy_reader.specs.Faults.{fault, over, limit_fault, names_fault, subject_fault, table_names_fault, owner_fault, user_fault, column_count}
 use Rattle.policy_reader.specs.Rules.{rule_fault, first_fault}
 use Rattle.policy_reader.specs.Outcome.{subject_id, tables_from, policy_value}

@@ -13,7 +13,8 @@ use Rattle.base_laws.proofs.FirstLaws.{first_at-none, none_left}
 use Rattle.base_laws.proofs.PlaceLaws.{none_before, distinct_from_places}
 use Rattle.policy_reader.specs.declared.raw.RawColumn.{RawColumn}
 use Rattle.policy_reader.specs.declared.raw.RawTable.{RawTable}
-use Rattle.policy_reader.specs.Names.{is_name, is_subject_name, is_one_of}
+use Rattle.policy_base.specs.Names.{is_one_of}
+use Rattle.policy_reader.specs.Names.{is_name, is_subject_name}
 use Rattle.policy_reader.specs.Faults.{name_fault, subject_fault, table_fault, column_fault, columns_fault, table_names_fault, is_table, has_column, have_column}
 use Rattle.word_forms.specs.Words.{is_first, is_later, is_word}
 

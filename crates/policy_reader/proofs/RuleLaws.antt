@@ -15,7 +15,7 @@ use Rattle.base_laws.proofs.SetLaws.{has-bit_or, has-single_same, has-single_oth
 use Rattle.mq_base.specs.declared.value.ValueType.TheVariants as type
 use Rattle.policy_reader.specs.declared.raw.RawColumn.{RawColumn}
 use Rattle.policy_reader.specs.declared.raw.RawTable.{RawTable}
-use Rattle.policy_reader.specs.Names.{is_one_of}
+use Rattle.policy_base.specs.Names.{is_one_of}
 use Rattle.policy_reader.specs.Faults.{is_column, is_table, has_column, column_count}
 use Rattle.policy_reader.specs.Grants.{single, named, named_at, listed}
 

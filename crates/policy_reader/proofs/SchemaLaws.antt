@@ -10,7 +10,7 @@ use Rattle.mq_base.specs.declared.schema.AttrInfo.{AttrInfo}
 use Rattle.mq_base.specs.declared.schema.TableInfo.{TableInfo}
 use Rattle.policy_reader.specs.declared.raw.RawColumn.{RawColumn}
 use Rattle.policy_reader.specs.declared.raw.RawTable.{RawTable}
-use Rattle.policy_reader.specs.Names.{is_one_of}
+use Rattle.policy_base.specs.Names.{is_one_of}
 use Rattle.policy_reader.specs.Faults.{column_count}
 use Rattle.policy_reader.specs.Grants.{ids}
 use Rattle.policy_reader.specs.Outcome.{subject_id, table_info, tables_from, column_info, columns_from}

@@ -24,7 +24,8 @@ use Rattle.policy_reader.specs.declared.refusal.PolicyCode.TheVariants.{UnknownS
 use Rattle.policy_base.specs.Accepted.{set_at}
 use Rattle.policy_reader.specs.Faults.{fault, is_column, is_table, column_count, table_names_fault}
 use Rattle.policy_reader.specs.Grants.{first_id, ids, single, named, named_at, listed, said, everything, nothing, rule_for, table_grant, grant, all_plain, all_sealed, set_of}
-use Rattle.policy_reader.specs.Names.{any_subject, is_one_of}
+use Rattle.policy_base.specs.Names.{is_one_of}
+use Rattle.policy_reader.specs.Names.{any_subject}
 use Rattle.policy_reader.specs.Outcome.{subject_id, tables_from, table_info, sixteen}
 use Rattle.policy_reader.specs.Rules.{is_rule, may_speak_of, unknown_fault, overlap_fault, sealed_string_fault, plain_fault, sealed_fault, strings_fault, rule_fault_for, rule_fault_in, rule_fault}
 use Rattle.policy_reader.proofs.NameLaws.{table_passes}

@@ -1,9 +1,9 @@
 -- The tests of limits, names, owners and the user, each a fault or a pass at its place.
 -- docs/FORMATS.md, "Policy file", lists them in the order in which the first fault is told.
-use Rattle.std.specs.Prelude.{ℕ, ◌+◌, Bool, not, ◌||◌, nat_lt, List, length, take, Option, Some, None, slice_get, option_and_then, bytes_eq, if◌then◌else◌}
+use Rattle.std.specs.Prelude.{ℕ, ◌+◌, Bool, not, ◌||◌, nat_lt, List, length, take, Option, Some, None, bytes_eq, if◌then◌else◌}
 use Rattle.std.specs.List.{list_any, sum_by}
 use Rattle.std.specs.Option.{option_or}
-use Rattle.base_laws.specs.Firsts.{first_at}
+use Rattle.base_laws.specs.Firsts.{first_at, test_at}
 use Rattle.mq_base.specs.declared.refusal.Refusal.{Refusal}
 use Rattle.mq_base.specs.Refusal.{refusal}
 use Rattle.policy_reader.specs.declared.raw.RawColumn.{RawColumn}
@@ -11,15 +11,12 @@ use Rattle.policy_reader.specs.declared.raw.RawTable.{RawTable}
 use Rattle.policy_reader.specs.declared.refusal.PolicyCode.{PolicyCode}
 use Rattle.policy_reader.specs.declared.refusal.PolicyCode.TheVariants.{BadName, RepeatedName, UnknownOwner, UnknownSubject, TooMany}
 use Rattle.policy_reader.specs.Codes.{number_of}
-use Rattle.policy_reader.specs.Names.{is_name, is_subject_name, is_one_of}
+use Rattle.policy_base.specs.Names.{is_one_of}
+use Rattle.policy_reader.specs.Names.{is_name, is_subject_name}
 
 -- a fault with its places
 abbrev pub fault : PolicyCode → ℕ → ℕ → Option Refusal
 fault code at item = Some (refusal (number_of code) at item)
-
--- the test of what stands at a place
-abbrev pub test_at : {T : Type 0} → (T → Option Refusal) → List T → ℕ → Option Refusal
-test_at test items place = option_and_then test (slice_get items place)
 
 -- whether a table, and whether a column, has this name
 abbrev pub is_table : List ℕ → RawTable → Bool

@@ -1,6 +1,5 @@
 -- What a name is, and when names are the same. docs/FORMATS.md, "Policy file", says the rule, and "Query" lists the keywords.
 use Rattle.std.specs.Prelude.{ℕ, Bool, not, ◌&&◌, nat_le, List, length, is_none, bytes_eq, codes}
-use Rattle.std.specs.List.{list_any}
 use Rattle.word_forms.specs.Words.{is_word}
 use Rattle.word_forms.specs.Keywords.{keyword_of}
 
@@ -15,7 +14,3 @@ any_subject = codes "any"
 -- whether the text is the name of a subject: `any` is none
 abbrev pub is_subject_name : List ℕ → Bool
 is_subject_name text = is_name text && not (bytes_eq text any_subject)
-
--- whether the text is one of the names
-abbrev pub is_one_of : List ℕ → List (List ℕ) → Bool
-is_one_of text names = list_any (λ name. bytes_eq name text) names

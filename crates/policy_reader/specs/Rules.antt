@@ -3,15 +3,16 @@
 use Rattle.std.specs.Prelude.{ℕ, ◌+◌, Bool, not, ◌&&◌, ◌||◌, List, length, take, Option, Some, None, find, bytes_eq, if◌then◌else◌}
 use Rattle.std.specs.List.{list_any}
 use Rattle.std.specs.Option.{option_or}
-use Rattle.base_laws.specs.Firsts.{first_at}
+use Rattle.base_laws.specs.Firsts.{first_at, test_at}
 use Rattle.mq_base.specs.declared.refusal.Refusal.{Refusal}
 use Rattle.policy_reader.specs.declared.raw.RawColumn.{RawColumn}
 use Rattle.policy_reader.specs.declared.raw.RawTable.{RawTable}
 use Rattle.policy_reader.specs.declared.raw.RawRule.{RawRule}
 use Rattle.policy_reader.specs.declared.raw.RawPolicy.{RawPolicy}
 use Rattle.policy_reader.specs.declared.refusal.PolicyCode.TheVariants.{UnknownSubject, UnknownTable, UnknownAttribute, Overlap, RuleForOwner, RepeatedRule}
-use Rattle.policy_reader.specs.Names.{any_subject, is_one_of}
-use Rattle.policy_reader.specs.Faults.{fault, test_at, is_table, has_column, limit_fault, names_fault, owner_fault, user_fault}
+use Rattle.policy_base.specs.Names.{is_one_of}
+use Rattle.policy_reader.specs.Names.{any_subject}
+use Rattle.policy_reader.specs.Faults.{fault, is_table, has_column, limit_fault, names_fault, owner_fault, user_fault}
 
 -- whether a rule is the one for this table and this subject
 abbrev pub is_rule : List ℕ → List ℕ → RawRule → Bool

@@ -1,5 +1,6 @@
 ghost use Rattle.std.specs.Prelude.{◌≡◌, bytes_eq};
-ghost use Rattle.policy_reader.specs.Names.{is_name, is_subject_name, is_one_of, any_subject};
+ghost use Rattle.policy_base.specs.Names.{is_one_of};
+ghost use Rattle.policy_reader.specs.Names.{is_name, is_subject_name, any_subject};
 
 use mq_base::Text;
 use word_forms::{Keyword, is_word};

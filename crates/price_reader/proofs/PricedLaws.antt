@@ -10,7 +10,7 @@ use Rattle.base_laws.specs.Firsts.{first_at}
 use Rattle.base_laws.proofs.FirstLaws.{first_at-none, none_left}
 use Rattle.base_laws.proofs.PlaceLaws.{found_place, replicate-holds}
 use Rattle.mq_base.specs.declared.refusal.Refusal.{Refusal}
-use Rattle.policy_reader.specs.Names.{is_one_of}
+use Rattle.policy_base.specs.Names.{is_one_of}
 use Rattle.price_reader.specs.declared.raw.Entry.{Entry}
 use Rattle.price_reader.specs.declared.raw.Link.{Link}
 use Rattle.price_reader.specs.declared.raw.RawPrices.{RawPrices}

@@ -3,13 +3,12 @@
 use Rattle.std.specs.Prelude.{ℕ, ℤ, pos, negsuc, Bool, not, ◌&&◌, ◌||◌, true, nat_lt, List, length, take, Option, Some, None, bytes_eq, if◌then◌else◌}
 use Rattle.std.specs.List.{list_any}
 use Rattle.std.specs.Option.{option_map_or, option_or}
-use Rattle.base_laws.specs.Firsts.{first_at}
+use Rattle.base_laws.specs.Firsts.{first_at, test_at}
 use Rattle.mq_base.specs.declared.refusal.Refusal.{Refusal}
 use Rattle.mq_base.specs.Refusal.{refusal}
 use Rattle.policy_base.specs.declared.policy.Policy.{Policy}
 use Rattle.policy_base.specs.Accepted.{table_names, attribute_names}
-use Rattle.policy_reader.specs.Faults.{test_at}
-use Rattle.policy_reader.specs.Names.{is_one_of}
+use Rattle.policy_base.specs.Names.{is_one_of}
 use Rattle.price_reader.specs.declared.raw.Entry.{Entry}
 use Rattle.price_reader.specs.declared.raw.Link.{Link}
 use Rattle.price_reader.specs.declared.raw.RawPrices.{RawPrices}

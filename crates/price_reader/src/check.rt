@@ -1,7 +1,7 @@
 ghost use Rattle.std.specs.Prelude.{◌≡◌, ◌<◌, ◌≤◌, ◌-◌, ◌^◌, length, take, bytes_eq};
 ghost use Rattle.std.specs.List.{list_any};
 ghost use Rattle.base_laws.specs.Firsts.{first_at};
-ghost use Rattle.policy_reader.specs.Names.{is_one_of};
+ghost use Rattle.policy_base.specs.Names.{is_one_of};
 ghost use Rattle.price_reader.specs.Faults.{natural, is_out, is_entry, is_link, entry_fault, missing_fault, section_fault, net_fault, link_fault, links_fault};
 ghost use Rattle.price_reader.specs.inside.Checks.{fault_of};
 

@@ -31,7 +31,7 @@ use Rattle.extended_plan.specs.States.{cost, state, work_on}
 use Rattle.extended_plan.specs.StepList.{breach_of, end_fault, is_root, outcome_after, steps_outcome, stopped, term_fault, totals_of}
 use Rattle.extended_plan.specs.Term.{Term, Leaf, Enc, Dec, Send, Un, Bin, holder, node_of, stands_on, stands_on_both}
 use Rattle.extended_plan.specs.Validity.{authorised, is_held, may_get, profile, runnable}
-use Rattle.extended_plan.specs.inside.Ran.{at_holder, ran}
+use Rattle.extended_plan.specs.Ran.{at_holder, ran}
 use Rattle.step_check.specs.inside.Slots.{above, breach_at, last_slot, leaf_at, one_slot, passed, placed, slots_outcome, stepped, two_slot}
 use Rattle.extended_plan.proofs.ListLaws.{clear_held}
 use Rattle.extended_plan.proofs.PlaceLaws.{one_operand, two_operands}

@@ -23,7 +23,7 @@ use Rattle.extended_plan.specs.Setting.{Setting, kind_at, leaf_of, root}
 use Rattle.extended_plan.specs.States.{state}
 use Rattle.extended_plan.specs.StepList.{stopped}
 use Rattle.extended_plan.specs.Term.{Leaf, stands_on, stands_on_both}
-use Rattle.extended_plan.specs.inside.Ran.{ran}
+use Rattle.extended_plan.specs.Ran.{ran}
 
 -- the tables on a stack, the last made first
 unfoldable pub slots_of : StepStack → List Slot

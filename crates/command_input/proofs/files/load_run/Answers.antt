@@ -4,7 +4,7 @@ use Rattle.mq_base.specs.declared.ids.TableId.{TableId}
 use Rattle.mq_base.specs.declared.table.PlainTable.{PlainTable}
 use Rattle.command_input.specs.declared.fault.FileRole.TheVariants as role
 use Rattle.command_input.specs.Input.{tables_input}
-use Rattle.command_input.specs.inside.Loading.{Loads}
+use Rattle.command_input.specs.Loading.{Loads}
 use Rattle.command_input.specs.Commands.{run_in}
 use Rattle.command_input.proofs.Tasks.{loaded_first, loaded_second, loaded_third, loaded_after, tables_stop, tables_all}
 use Rattle.command_input.proofs.files.load_run.Goals as goal

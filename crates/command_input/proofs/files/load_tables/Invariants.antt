@@ -6,7 +6,7 @@ use Rattle.mq_base.specs.Table.{HasForm}
 use Rattle.outside_io.specs.Outside.{Follows}
 use Rattle.command_input.specs.declared.fault.FileRole.TheVariants as role
 use Rattle.command_input.specs.Input.{tables_input}
-use Rattle.command_input.specs.inside.Loading.{Knows}
+use Rattle.command_input.specs.Loading.{Knows}
 use Rattle.command_input.proofs.files.load_tables.Given as goal
 
 abbrev pub invariant-tables : goal.invariant-tables
