@@ -1,5 +1,5 @@
 -- Laws of choosing: the rows that are kept one by one, and that constants compare beside the cells of their column as they are to.
-use Rattle.std.proofs.Common.{◌≡◌, refl, sym, ◌∙◌, ap, subst, ℕ, zero, suc, ◌+◌, ◌<◌, ◌≤◌, Bool, false, cond, List, [], ◌∷◌, ◌++◌, length, map, filter, All, Option, Some, None, option_map, slice_get, arith}
+use Rattle.std.proofs.Common.{◌≡◌, refl, sym, ◌∙◌, ap, subst, ℕ, zero, suc, ◌+◌, ◌<◌, ◌≤◌, Bool, false, cond, List, [], ◌∷◌, ◌++◌, length, map, filter, All, Option, Some, None, option_map, slice_get, if◌then◌else◌, arith}
 use Rattle.std.specs.Prelude.{option_and_then}
 use Rattle.std.specs.Cmp.Lexicographic.{slice_cmp}
 use Rattle.std.specs.Ordering.{nat_cmp}
@@ -33,6 +33,12 @@ chosen_more p n =
     ap (filter p) (sym (map_same_list (range_with_len 0 (n + 1))))
     ∙ filter_of_map_range_with_len_more p (λ x. x) 0 n n (omega arith)
     ∙ ap (λ xs. filter p xs ++ cond (p n) (n ∷ []) []) (map_same_list (range_with_len 0 n))
+
+-- the rows that are kept, with one more that is tested
+pub kept_more : (p : ℕ → Bool) (row : ℕ) (before after : List ℕ) (test : Bool) → before ≡ filter p (range_with_len 0 row) → test ≡ p row
+    → after ≡ before ++ (if test then row ∷ [] else []) → after ≡ filter p (range_with_len 0 (row + 1))
+kept_more p row before after test so_far is pushed =
+    pushed ∙ (λ i. so_far i ++ (if is i then row ∷ [] else [])) ∙ sym (chosen_more p row)
 
 -- ---- constants
 

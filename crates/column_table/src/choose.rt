@@ -122,7 +122,6 @@ impl Table {
     /// "Encoded run".
     ///
     /// `NoMemory` where the allocator refused a request. The time is that of a comparison for each row.
-    #[tactic(auto, using(crate::proofs::ChoiceLaws::chosen_more))]
     pub fn rows_by_count(&self, alloc: Global, op: CmpOp, number: i64) -> Result<Vec<u64>, NoMemory>
         ensures { IfOk result (λ kept. kept.items ≡ filter (λ row. passes (λ n. holds op (int_cmp (pos n) number)) (count_at self.now.counts row)) (range_with_len 0 self.now.rows)) }
     {

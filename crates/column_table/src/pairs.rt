@@ -14,7 +14,6 @@ use sealed_column::{Pair, pairs};
 use std::alloc::Global;
 
 // Each of so many rows with each of so many others.
-#[tactic(auto, using(crate::proofs::PairRows::all_pairs_more))]
 pub(crate) fn all_pairs(alloc: Global, rows: u64, others: u64) -> Result<Vec<Pair>, NoMemory>
     ensures { IfOk result (λ made. made.items ≡ beside.all_pairs rows others) }
 {

@@ -1,28 +1,30 @@
 -- What a step gains is what it makes of the states, where the new holder may hold that; and it makes states of its node.
-use Rattle.std.proofs.Common.{◌≡◌, ℕ, ◌<◌, ◌==◌, Bool, true, false, length, Option, Some, None, refl, sym, ◌∙◌, ap, arith}
+use Rattle.std.proofs.Common.{◌≡◌, ℕ, ◌*◌, ◌<◌, ◌==◌, Bool, true, false, length, Option, Some, None, refl, sym, ◌∙◌, ap, arith}
 use Rattle.std.specs.Prelude.{◌&&◌, if◌then◌else◌, option_map, IfSome, nat_lt, not}
-use Rattle.std.proofs.lemmas.Bool.Decides.{nat_tests}
+use Rattle.std.proofs.lemmas.Bool.Decides.{nat_tests, Decides-eqb}
 use Rattle.mq_base.specs.declared.ids.NodeId.{NodeId}
 use Rattle.mq_base.specs.declared.ids.SubjectId.{SubjectId}
 use Rattle.mq_base.specs.declared.plan.PlanOp.{PlanOp}
 use Rattle.mq_base.specs.declared.plan.Step.{Step}
 use Rattle.mq_base.specs.declared.plan.Step.TheVariants as step
-use Rattle.cost_model.specs.Costs.{cut, step_work}
+use Rattle.cost_model.specs.Costs.{Basis, cut, load, net_of, sending, step_work}
 use Rattle.plan_algebra.specs.declared.kind.Kind.{Kind}
 use Rattle.plan_algebra.specs.declared.kind.Kind.TheVariants as kind
 use Rattle.plan_algebra.specs.Facts.{IsNodeAt}
 use Rattle.relation_profile.specs.declared.view.View.{View}
+use Rattle.relation_profile.specs.Nodes.{AreTwoViews, two_after}
 use Rattle.relation_profile.specs.Profile.{Profile}
 use Rattle.relation_profile.specs.Runnable.{run_dec, run_enc, run_one, run_two}
 use Rattle.relation_profile.specs.View.{IsView, profile_of, view_of}
 use Rattle.relation_profile.proofs.ViewLaws.{dec_answer_stands, dec_answer_within, enc_answer_stands, enc_answer_within, one_answer_stands, one_answer_within, two_answer_stands, two_answer_within}
+use Rattle.extended_plan.specs.declared.job.Job.{Job}
 use Rattle.extended_plan.specs.declared.state.State.{State}
 use Rattle.extended_plan.specs.Gains.{Gain, held, one_profile, shown, step_gain, two_profile}
-use Rattle.extended_plan.specs.Job.{AreOperands, IsOperand, IsStateAt, IsStepAt, told}
+use Rattle.extended_plan.specs.Job.{AreOperands, IsOperand, IsStateAt, IsStepAt, setting_of, told}
 use Rattle.extended_plan.specs.Ready.{IsReady}
 use Rattle.extended_plan.specs.Setting.{Setting, kind_at, known_at, op_at, schemes}
 use Rattle.extended_plan.specs.Validity.{may_get, may_hold}
-use Rattle.extended_plan.specs.Ran.{at_holder, gained, ran, sent}
+use Rattle.extended_plan.specs.Ran.{at_holder, gained, joined, ran, sent}
 
 -- a view stands at a node for the profile of which it is the view
 abbrev Stands : Setting → ℕ → Option Profile → Type 0
@@ -168,3 +170,36 @@ told_of s n step first second st b work ready at is holds costs =
         ≡ (if c then Some (st, work) else None)
     by_test true = ap (λ (w : ℕ). Some (st, w)) (sym costs)
     by_test false = refl
+
+-- what is told of a step that came to none
+pub told_none : (s : Setting) (n : NodeId) (step : Step) (first : State) (second : Option State) → IsReady s → IsStepAt s n step first second
+    → None ≡ ran s n step first second → None ≡ option_map told (step_gain s n step first second)
+told_none s n step first second ready at is =
+    sym (ap (option_map told) (gain_parts s n step first second ready at ∙ ap (gained s n step first) (sym is)))
+
+-- the work of a send of this many bytes
+pub sent_work : (s : Setting) (base : Basis) (from to n : ℕ) (view : View) (bytes work : ℕ) → base ≡ s.basis → bytes ≡ load s.basis n view
+    → work ≡ cut (bytes * net_of base.prices from to) → work ≡ cut (sending s.basis from to n view)
+sent_work s base from to n view bytes work same all is =
+    is ∙ ap (λ (k : ℕ). cut (k * net_of base.prices from to)) all
+    ∙ ap (λ (b : Basis). cut (load s.basis n view * net_of b.prices from to)) same
+
+-- what a call makes of two operands is what the setting makes of them
+pub two_viewed : (job : Job) (k : Kind) (left right : State) → AreOperands (setting_of job) k left right → AreTwoViews job.facts k left.view right.view
+two_viewed job (kind.Two x y) left right operands = (operands.0.view, operands.1.view)
+two_viewed job _ left right operands = absurd operands
+
+pub two_same : (job : Job) (o : PlanOp) (k : Kind) (left right : State)
+    → two_after job.facts job.clusters.scheme o k left.view right.view ≡ two_profile (setting_of job) o k left right
+two_same job o kind.Leaf left right = refl
+two_same job o (kind.One x) left right = refl
+two_same job o (kind.Two x y) left right = refl
+
+-- operands of one holder are joined
+pub joined_is : (s : Setting) (n : NodeId) (left right : State) (view : Option View) (made : Option State) → left.holder.0 ≡ right.holder.0
+    → view ≡ option_map view_of (two_profile s (op_at s n.0) (kind_at s n.0) left right) → made ≡ at_holder left.holder view
+    → made ≡ joined s n left right
+joined_is s n left right view made one_holder answers is =
+    is ∙ ap (at_holder left.holder) answers
+    ∙ sym (ap (λ (b : Bool). if b then at_holder left.holder (option_map view_of (two_profile s (op_at s n.0) (kind_at s n.0) left right)) else None)
+    ((Decides-eqb left.holder.0 right.holder.0).1 one_holder))

@@ -1,5 +1,5 @@
 -- Laws of a plan's list as it grows: it never gets shorter, and what is left of a list of conditions decides what it becomes.
-use Rattle.std.proofs.Common.{◌≡◌, ℕ, ◌+◌, ◌-◌, ◌<◌, ◌≤◌, Bool, true, false, List, [], ◌∷◌, ◌++◌, map, length, get_or, take, drop, Some, None, refl, add-one, arith}
+use Rattle.std.proofs.Common.{◌≡◌, ℕ, ◌+◌, ◌-◌, ◌<◌, ◌≤◌, Bool, true, false, List, [], ◌∷◌, ◌++◌, map, length, get_or, take, drop, Some, None, refl, sym, ap, ◌∙◌, add-one, arith}
 use Rattle.std.specs.Prelude.{filter, position}
 use Rattle.std.specs.List.{position_or_len}
 use Rattle.std.proofs.lemmas.List.{drop_more, drop_all, take_more, take_rest, length-append, length-map, length_push}
@@ -53,6 +53,14 @@ pub kept-more : (test : Cond → Bool) (conds : List Cond) (i : ℕ) (d : Cond) 
     ≡ over_kept test (drop (i + 1) conds) (over_if (test (get_or conds i d)) (selection (get_or conds i d)) nodes)
 kept-more test conds i d nodes below =
     rw (drop_more conds i d below) (kept_head test (get_or conds i d) (drop (i + 1) conds) nodes (test (get_or conds i d)) refl)
+
+pub kept-step : (test : Cond → Bool) (whole nodes made : List PlanNode) (conds : List Cond) (i : ℕ) (c : Cond) (b : Bool) → i < length conds
+    → c ≡ get_or conds i c → b ≡ test c → made ≡ over_if b (selection c) nodes
+    → whole ≡ over_kept test (drop i conds) nodes → whole ≡ over_kept test (drop (i + 1) conds) made
+kept-step test whole nodes made conds i c b below read tested is before =
+    before ∙ kept-more test conds i c nodes below
+    ∙ ap (over_kept test (drop (i + 1) conds))
+    (sym (is ∙ ap (λ (t : Bool). over_if t (selection c) nodes) tested ∙ ap (λ (x : Cond). over_if (test x) (selection x) nodes) read))
 
 pub kept-end : (test : Cond → Bool) (conds : List Cond) (i : ℕ) (nodes : List PlanNode) → length conds ≤ i
     → over_kept test (drop i conds) nodes ≡ nodes

@@ -34,10 +34,24 @@ pub meeting-end : (test : AttrSet → Bool) (s : AttrSet) (family : List AttrSet
     → with_all s (filter test (drop i family)) ≡ s
 meeting-end test s family i past = rw (drop_all i family past) refl
 
+-- past a set that is kept if the test takes it
+pub keeping-step : (test : AttrSet → Bool) (before after family : List AttrSet) (i : ℕ) (d : AttrSet) (b : Bool) → i < length family
+    → b ≡ test (get_or family i d) → after ≡ before ++ cond b (get_or family i d ∷ []) []
+    → before ≡ filter test (take i family) → after ≡ filter test (take (i + 1) family)
+keeping-step test before after family i d b below tested is so_far =
+    is ∙ ap (λ (t : Bool). before ++ cond t (get_or family i d ∷ []) []) tested
+    ∙ ap (λ (kept : List AttrSet). kept ++ cond (test (get_or family i d)) (get_or family i d ∷ []) []) so_far
+    ∙ sym (filter_more test family i d below)
+
 -- past a set that is placed
 pub united-more : (family other : List AttrSet) (i : ℕ) (d : AttrSet) → i < length other
     → united family (drop i other) ≡ united (placed (get_or other i d) family) (drop (i + 1) other)
 united-more family other i d below = rw (drop_more other i d below) refl
+
+pub united-step : (whole family made other : List AttrSet) (i : ℕ) (d : AttrSet) → i < length other → made ≡ placed (get_or other i d) family
+    → whole ≡ united family (drop i other) → whole ≡ united made (drop (i + 1) other)
+united-step whole family made other i d below is before =
+    before ∙ united-more family other i d below ∙ ap (λ (f : List AttrSet). united f (drop (i + 1) other)) (sym is)
 
 pub united-end : (family other : List AttrSet) (i : ℕ) → length other ≤ i → united family (drop i other) ≡ family
 united-end family other i past = rw (drop_all i other past) refl

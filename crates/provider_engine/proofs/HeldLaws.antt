@@ -1,4 +1,9 @@
 -- Laws of tables that are held: that they are of their job and open under its keys, also at other rows or with fewer columns.
+use denote.Struct.Record.{values_one}
+use Rattle.column_table.specs.contracts.table.Table as table
+use Rattle.column_table.specs.declared.table.Table.{Table}
+use Rattle.provider_engine.specs.contracts.held.Held as held
+use Rattle.provider_engine.specs.declared.held.Held.{Held}
 use Rattle.std.proofs.Common.{◌≡◌, refl, sym, ◌∙◌, ap, subst, ℕ, ◌<◌, Bool, true, false, List, Option, Some, None, option_map, arith}
 use Rattle.std.specs.Prelude.{IfSome, IsSome, if◌then◌else◌}
 use Rattle.base_laws.specs.Sets.{has}
@@ -126,3 +131,14 @@ runs_after_one s n from old on is =
         → runs_one (schemes s) (op_at s n.0) (shown s from.0 old) ≡ true
     by_test true runs is = runs
     by_test false runs is = cc
+
+-- tables of the same rows, columns and counts are the same, and what holds them for the same node and state
+pub same_table : (x y : Table) → x.rows ≡ y.rows → x.columns ≡ y.columns → x.counts ≡ y.counts → x ≡ y
+same_table x y rows columns counts =
+    let same : table.struct.as_values x ≡ table.struct.as_values y = cc in
+    values_one table.struct table.the_type.propositions x y same
+
+pub same_held : (x y : Held) → x.node ≡ y.node → x.state ≡ y.state → x.table ≡ y.table → x ≡ y
+same_held x y node state tables =
+    let same : held.struct.as_values x ≡ held.struct.as_values y = cc in
+    values_one held.struct held.the_type.propositions x y same

@@ -26,7 +26,7 @@ ghost use Rattle.row_algebra.specs.Contents.{table_rows};
 ghost use Rattle.row_algebra.specs.Rows.{cut};
 
 use crate::held::Held;
-use crate::seal::{key_of, lock_column};
+use crate::seal::{key_of, lock_column, put_column};
 use column_table::{Table, no_columns};
 use extended_plan::{Job, leaf_at};
 use key_clusters::Keys;
@@ -266,7 +266,8 @@ fn move_own(
         return;
     }
     let cells = take_out(alloc, values, at);
-    columns[usize::from(a.0)] = Some(AnyColumn::Clear(plain_column(ty, cells)));
+    let column = AnyColumn::Clear(plain_column(ty, cells));
+    put_column(columns, usize::from(a.0), column);
 }
 
 // Moves the columns of a table's own attributes in a set to the attributes' places.

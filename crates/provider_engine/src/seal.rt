@@ -1,6 +1,6 @@
 //! A column of a table, sealed or opened.
 
-ghost use Rattle.std.specs.Prelude.{◌≡◌, ◌<◌, ◌^◌, IfErr, IfOk, List, OnErr, OnOk, Some, map, true};
+ghost use Rattle.std.specs.Prelude.{◌≡◌, ◌<◌, ◌^◌, IfErr, IfOk, List, OnErr, OnOk, Some, map, slice_set, true};
 ghost use Rattle.base_laws.specs.Sets.{has};
 ghost use Rattle.column_table.specs.Columns.{Shown, column_at, shown, shown_columns};
 ghost use Rattle.extended_plan.specs.Job.{IsStateAt, setting_of};
@@ -98,6 +98,14 @@ fn open_column(
     }
 }
 
+// Puts a column at a place.
+pub(crate) fn put_column(columns: &mut [Option<AnyColumn>; 64], at: usize, column: AnyColumn)
+    requires { at < 64 }
+    ensures { columns.new ≡ slice_set columns.old at (Some column) }
+{
+    columns[at] = Some(column);
+}
+
 // Seals the column of an attribute where it is plain.
 fn seal_place(
     alloc: Global,
@@ -118,11 +126,11 @@ fn seal_place(
     };
     match seal_column(alloc, scheme, key, place, column) {
         Ok(made) => {
-            columns[at] = Some(made);
+            put_column(columns, at, made);
             Ok(())
         }
         Err((column, stop)) => {
-            columns[at] = Some(column);
+            put_column(columns, at, column);
             Err(stop)
         }
     }
@@ -146,11 +154,11 @@ fn open_place(
     };
     match open_column(alloc, key, column) {
         Ok(made) => {
-            columns[at] = Some(made);
+            put_column(columns, at, made);
             Ok(())
         }
         Err((column, stop)) => {
-            columns[at] = Some(column);
+            put_column(columns, at, column);
             Err(stop)
         }
     }

@@ -70,8 +70,9 @@ fn seal_randomised(
     let mut block = [0; MOST_BYTES];
     let mut cell = [0; MOST_BYTES + 12];
     let width = value.block_into(&mut block);
-    cipher_stream::seal_into(key, step, row, &block[..width], &mut cell[..width + 12]);
-    Text::copied(alloc, &cell[..width + 12])
+    let cell = &mut cell[..width + 12];
+    cipher_stream::seal_into(key, step, row, &block[..width], cell);
+    Text::copied(alloc, cell)
 }
 
 fn seal_deterministic(alloc: Global, key: &[u8; 32], value: &Value) -> Result<Text, NoMemory>
@@ -81,8 +82,9 @@ fn seal_deterministic(alloc: Global, key: &[u8; 32], value: &Value) -> Result<Te
     let mut block = [0; MOST_BYTES];
     let mut cell = [0; MOST_BYTES];
     let width = value.block_into(&mut block);
-    cipher_feistel::seal_into(key, &block[..width], &mut cell[..width]);
-    Text::copied(alloc, &cell[..width])
+    let cell = &mut cell[..width];
+    cipher_feistel::seal_into(key, &block[..width], cell);
+    Text::copied(alloc, cell)
 }
 
 fn seal_in_order(alloc: Global, key: &[u8; 32], value: &Value) -> Result<Text, NoMemory>
@@ -92,6 +94,7 @@ fn seal_in_order(alloc: Global, key: &[u8; 32], value: &Value) -> Result<Text, N
     let mut digits = [0; MOST_DIGITS];
     let mut cell = [0; 2 * MOST_DIGITS];
     let width = value.digits_into(&mut digits);
-    cipher_order::seal_into(key, &digits[..width], &mut cell[..2 * width]);
-    Text::copied(alloc, &cell[..2 * width])
+    let cell = &mut cell[..2 * width];
+    cipher_order::seal_into(key, &digits[..width], cell);
+    Text::copied(alloc, cell)
 }

@@ -9,5 +9,5 @@ pub returns-clause-moved : goal.returns-clause-moved
 returns-clause-moved c = λ asked column read.
     let valued = c.plain_column.ensures.cells
     ∙ same_Some c.take_out-cells.result column (sym c.take_out-cells.ensures.taken ∙ read) in
-    moved_put c.args.columns.now c.from.result c.args.a.0 (Clear c.plain_column.result) c.args.ty column c.from.ensures
-    (λ j. plain_column (c.plain_column.ensures.typed j) (valued j))
+    rw c.put_column.ensures (moved_put c.args.columns.now c.from.result c.args.a.0 (Clear c.plain_column.result) c.args.ty column c.from.ensures
+    (λ j. plain_column (c.plain_column.ensures.typed j) (valued j)))

@@ -4,10 +4,12 @@ use Rattle.provider_engine.proofs.seal.open_place.Goals as goal
 
 pub returns-in-Ok-clause-opened : goal.returns-in-Ok-clause-opened
 returns-in-Ok-clause-opened c =
-    put_opened c.args.key.now c.args.columns.now c.from-at.result c.args.a.0 c.index-columns-at.result c.take.new.self c.in-Some.column
-    c.in-Ok.made c.from-at.ensures (omega arith) c.index-columns-at.is (c.in-Some.ensures.value ∙ sym c.index-columns-at.is) c.in-Ok.ensures.opened
+    rw c.put_column.ensures
+    (put_opened c.args.key.now c.args.columns.now c.from-at.result c.args.a.0 c.index-columns-at.result c.take.new.self c.in-Some.column
+    c.in-Ok.made c.from-at.ensures (omega arith) c.index-columns-at.is (c.in-Some.ensures.value ∙ sym c.index-columns-at.is) c.in-Ok.ensures.opened)
 
 pub returns-in-Err-clause-unchanged : goal.returns-in-Err-clause-unchanged
 returns-in-Err-clause-unchanged c =
-    put_back c.args.columns.now c.from-at.result c.args.a.0 c.index-columns-at.result c.take.new.self c.in-Some.column c.in-Err.column
+    c.put_column-in-Err.ensures
+    ∙ put_back c.args.columns.now c.from-at.result c.args.a.0 c.index-columns-at.result c.take.new.self c.in-Some.column c.in-Err.column
     c.from-at.ensures (omega arith) c.index-columns-at.is (c.in-Some.ensures.value ∙ sym c.index-columns-at.is) c.in-Err.ensures.back
