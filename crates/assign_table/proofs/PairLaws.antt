@@ -18,7 +18,7 @@ use Rattle.plan_algebra.specs.Facts.{IsTwoOn}
 use Rattle.relation_profile.specs.declared.view.View.{View}
 use Rattle.relation_profile.specs.Profile.{Profile}
 use Rattle.relation_profile.specs.Runnable.{are_comparable, runs_two}
-use Rattle.relation_profile.specs.Schemes.{offers}
+use Rattle.mq_base.specs.Schemes.{offers}
 use Rattle.relation_profile.specs.Steps.{after_two, both}
 use Rattle.relation_profile.specs.View.{IsView, profile_of}
 use Rattle.extended_plan.specs.declared.state.State.{State}

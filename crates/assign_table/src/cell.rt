@@ -1,7 +1,7 @@
 use crate::way::Way;
 
 /// What a table has for a state: its least label so far, cut at 2^128 - 1, and the way that gave it.
-#[derive(Clone, Copy, Debug, PartialEq, Eq)]
+#[derive(Clone, Copy)]
 pub struct Cell {
     pub label: u128,
     pub way: Way,

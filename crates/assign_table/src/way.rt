@@ -2,7 +2,7 @@ use extended_plan::State;
 use mq_base::{AttrSet, NodeId, Step, TableId};
 
 /// How a state was reached. Operands are places of the arena of settled states, before one's own; it has at most 200,000.
-#[derive(Clone, Copy, Debug, PartialEq, Eq)]
+#[derive(Clone, Copy)]
 pub enum Way {
     /// As the leaf of a table.
     Leaf(TableId),
@@ -13,7 +13,7 @@ pub enum Way {
 }
 
 /// A state that no longer waits, with its final label and the way in which it was reached.
-#[derive(Clone, Copy, Debug, PartialEq, Eq)]
+#[derive(Clone, Copy)]
 pub struct Settled {
     pub state: State,
     pub label: u128,
@@ -21,7 +21,7 @@ pub struct Settled {
 }
 
 /// A settled state, with attributes whose encryption or decryption lowers no label from it, since the state to which it leads is settled.
-#[derive(Clone, Copy, Debug, PartialEq, Eq)]
+#[derive(Clone, Copy)]
 pub struct Taken {
     pub settled: Settled,
     pub near: AttrSet,

@@ -56,7 +56,7 @@ fn on_one(
     ensures of_job { IfOk result (IsOfJob (setting_of job.now)) }
     ensures opened { IfOk result (IsOpenedBy (setting_of job.now) keys.now.keys) }
 {
-    assert!(rt; is_runnable(job, step, &held), "{step:?}");
+    assert!(rt; is_runnable(job, step, &held), "at {place}");
     match run_unary(alloc, job, keys, place, step, held) {
         Ok(made) => Ok(made),
         Err((_, no_memory)) => Err(Fail::from(no_memory)),
@@ -138,7 +138,7 @@ pub(crate) fn walk(
     let mut place = place;
     for (step, wanted) in steps {
         held = on_one(rt, alloc, job, keys, place, step, held)?;
-        assert_eq!(rt; told(alloc, keys, &held)?.as_str(), *wanted, "{step:?}");
+        assert_eq!(rt; told(alloc, keys, &held)?.as_str(), *wanted, "at {place}");
         place = place.wrapping_add(1);
     }
     Ok(held)

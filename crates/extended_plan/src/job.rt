@@ -14,7 +14,7 @@ use std::alloc::Global;
 
 /// A query over a policy with prices, its plan with the facts of each node, and what costs are reckoned from: all that extended
 /// plans are judged by. docs/MODEL.md, "Extended plans".
-#[derive(Debug, Drop)]
+#[derive(Drop)]
 pub struct Job<'a> {
     pub policy: &'a Policy,
     pub prices: &'a Prices,

@@ -21,7 +21,7 @@ use Rattle.mq_base.specs.declared.table.Scheme.TheVariants.{Det, Ope}
 use Rattle.plan_algebra.specs.declared.plan_facts.PlanFacts.{PlanFacts}
 use Rattle.plan_algebra.specs.Facts.{node_at}
 use Rattle.plan_algebra.specs.Families.{IsFamily, meets}
-use Rattle.relation_profile.specs.Schemes.{offers, supports}
+use Rattle.mq_base.specs.Schemes.{offers, supports}
 use Rattle.key_clusters.specs.Asked.{equated_by, equated_set, extremes, is_extreme, is_order, ordered_by, ordered_set}
 use Rattle.key_clusters.specs.Clusters.{least_of, least_scheme, root_family, scheme_for, scheme_in, set_in, set_of, wanted}
 use Rattle.key_clusters.specs.Keys.{key_of}

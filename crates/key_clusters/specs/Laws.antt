@@ -14,7 +14,7 @@ use Rattle.plan_algebra.specs.declared.plan_facts.PlanFacts.{PlanFacts}
 use Rattle.key_clusters.specs.Asked.{is_extreme}
 use Rattle.key_clusters.specs.Clusters.{cluster_in, scheme_in}
 use Rattle.key_clusters.specs.Keys.{key_of}
-use Rattle.relation_profile.specs.Schemes.{offers}
+use Rattle.mq_base.specs.Schemes.{offers}
 
 -- whether two attributes stand in one set of a family
 abbrev pub are_together : ℕ → ℕ → List AttrSet → Bool

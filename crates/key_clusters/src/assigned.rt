@@ -5,7 +5,7 @@ use mq_base::{AttrId, Scheme};
 
 /// For each attribute, by its id, the cluster in which it is sealed and the scheme of that cluster. Ids of attributes that the
 /// query does not name are clusters of their own. docs/MODEL.md, "Clusters and keys".
-#[derive(Clone, Copy, Debug, PartialEq, Eq)]
+#[derive(Clone, Copy)]
 pub struct Clusters {
     /// The least attribute of the cluster.
     pub cluster: [AttrId; 64],

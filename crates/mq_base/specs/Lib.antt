@@ -3,6 +3,7 @@ pub mod Bytes
 pub mod BytesLaws
 pub mod Schema
 pub mod Table
+pub mod Schemes
 pub mod ValueLaws
 pub mod Nodes
 pub mod Small

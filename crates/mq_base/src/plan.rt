@@ -5,7 +5,7 @@ use crate::seq::Seq;
 use crate::value::Value;
 
 /// An operation of a query plan.
-#[derive(Debug, Drop)]
+#[derive(Drop)]
 pub enum PlanOp {
     /// The used attributes of a table.
     Base(TableId, AttrSet),
@@ -26,7 +26,7 @@ pub enum PlanOp {
 }
 
 /// A node: its operation and its operands, which stand before it.
-#[derive(Debug, Drop)]
+#[derive(Drop)]
 pub struct PlanNode {
     pub op: PlanOp,
     pub left: Option<NodeId>,
@@ -34,13 +34,13 @@ pub struct PlanNode {
 }
 
 /// A query plan: its nodes in post-order, the last one its root. At most 64 nodes.
-#[derive(Debug, Drop)]
+#[derive(Drop)]
 pub struct Plan {
     pub nodes: Seq<PlanNode>,
 }
 
 /// A step of an extended plan, written after the steps that make its operands.
-#[derive(Clone, Copy, Debug, PartialEq, Eq)]
+#[derive(Clone, Copy)]
 pub enum Step {
     /// The used attributes of a table, at its owner.
     Base(TableId),

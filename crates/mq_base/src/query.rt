@@ -15,7 +15,7 @@ pub enum CmpOp {
 }
 
 /// A function over the values of an attribute in a group.
-#[derive(Clone, Copy, Debug, PartialEq, Eq)]
+#[derive(Clone, Copy, Debug)]
 pub enum Agg {
     Sum,
     Min,
@@ -23,7 +23,7 @@ pub enum Agg {
 }
 
 /// A condition of ON or WHERE.
-#[derive(Debug, Drop, PartialEq, Eq)]
+#[derive(Drop)]
 pub enum Cond {
     /// An attribute compared with a constant of its type.
     Const(AttrId, CmpOp, Value),
@@ -32,7 +32,7 @@ pub enum Cond {
 }
 
 /// A condition of HAVING.
-#[derive(Debug, Drop, PartialEq, Eq)]
+#[derive(Drop)]
 pub enum Having {
     /// An aggregated attribute compared with a constant.
     Const(AttrId, CmpOp, Value),
@@ -41,7 +41,7 @@ pub enum Having {
 }
 
 /// A selected item.
-#[derive(Clone, Copy, Debug, PartialEq, Eq)]
+#[derive(Clone, Copy)]
 pub enum Item {
     /// An attribute, or its aggregate where the query aggregates it.
     Attr(AttrId),
@@ -50,7 +50,7 @@ pub enum Item {
 }
 
 /// A query with ids in place of names.
-#[derive(Debug, Drop)]
+#[derive(Drop)]
 pub struct Query {
     /// The select list, in order, repeated items included.
     pub items: Seq<Item>,

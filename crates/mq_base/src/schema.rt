@@ -5,7 +5,7 @@ use crate::text::Text;
 use crate::value::ValueType;
 
 /// A table of a policy: its name, the subject that owns it, and its columns.
-#[derive(Debug, Drop)]
+#[derive(Drop)]
 pub struct TableInfo {
     pub name: Text,
     pub owner: SubjectId,
@@ -13,7 +13,7 @@ pub struct TableInfo {
 }
 
 /// A column of a policy: its name, its type, and the table that it belongs to.
-#[derive(Debug, Drop)]
+#[derive(Drop)]
 pub struct AttrInfo {
     pub name: Text,
     pub ty: ValueType,
@@ -21,7 +21,7 @@ pub struct AttrInfo {
 }
 
 /// The tables and all columns of a policy, each at its id, in the order of the policy file.
-#[derive(Debug, Drop)]
+#[derive(Drop)]
 pub struct Schema {
     pub tables: Seq<TableInfo>,
     pub attrs: Seq<AttrInfo>,

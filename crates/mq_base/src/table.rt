@@ -14,7 +14,7 @@ pub enum Scheme {
 }
 
 /// The content of a table as its file gives it.
-#[derive(Debug, Drop)]
+#[derive(Drop)]
 pub struct PlainTable {
     pub table: TableId,
     /// The number of rows, at most 100,000.
@@ -24,7 +24,7 @@ pub struct PlainTable {
 }
 
 /// One sending of a table from subject to subject.
-#[derive(Clone, Copy, Debug, PartialEq, Eq)]
+#[derive(Clone, Copy)]
 pub struct Transfer {
     /// The place of the Send step in the list of steps.
     pub step: u32,

@@ -8,7 +8,7 @@ use crate::text::Text;
 use std::cmp::Ordering;
 
 /// The type of a column.
-#[derive(Clone, Copy, Debug, PartialEq, Eq)]
+#[derive(Clone, Copy)]
 pub enum ValueType {
     /// Whole numbers. A cell or a literal fits `i64`; sums are wider.
     Int,
@@ -18,7 +18,7 @@ pub enum ValueType {
 
 /// A value of a cell, a literal or an aggregate. Every INT is before every TEXT; INT are ordered as numbers,
 /// TEXT by bytes, as `value_cmp` says.
-#[derive(Debug, Drop)]
+#[derive(Drop)]
 pub enum Value {
     /// A whole number; a cell or a literal fits `i64`.
     Int(i128),

@@ -1,5 +1,2 @@
 pub mod Outside
-pub mod Scripts
-pub mod MemoryShelf
-pub mod MemorySink
 pub mod StdSink

@@ -3,7 +3,8 @@ ghost use Rattle.std.specs.Prelude.{IfOk};
 ghost use Rattle.outside_io.specs.Outside.{HasDistinctNames};
 
 use mq_base::{NoMemory, Seq, Text};
-use outside_io::{DirShelf, MemoryShelf, Shelf, ShelfNo};
+use outside_io::{DirShelf, Shelf, ShelfNo};
+use outside_memory::MemoryShelf;
 use std::alloc::Global;
 use std::test::Fail;
 use std::{env, fs, process};

@@ -1,6 +1,7 @@
 //! What sinks answer to pieces, and what is written then.
 use mq_base::Seq;
-use outside_io::{MemorySink, Sink, SinkNo, StdSink};
+use outside_io::{Sink, SinkNo, StdSink};
+use outside_memory::MemorySink;
 use std::io;
 use std::io::Write;
 use std::test::Fail;

@@ -2,7 +2,7 @@ use mq_base::{AttrSet, Seq};
 
 /// What is known of the table that a node gives, whatever is sealed in it and wherever it is.
 /// docs/MODEL.md, "Facts of a node".
-#[derive(Debug, Drop)]
+#[derive(Drop)]
 pub struct NodeFacts {
     /// The attributes that it has.
     pub visible: AttrSet,

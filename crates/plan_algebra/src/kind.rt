@@ -1,7 +1,7 @@
 use mq_base::NodeId;
 
 /// Of which kind a node is, with the numbers of its operands.
-#[derive(Clone, Copy, Debug, PartialEq, Eq)]
+#[derive(Clone, Copy)]
 pub enum Kind {
     /// The used attributes of a table.
     Leaf,

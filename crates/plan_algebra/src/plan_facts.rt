@@ -13,7 +13,7 @@ use mq_base::{AttrSet, NoMemory, NodeId, Plan, PlanOp, Seq};
 use std::alloc::Global;
 
 /// A plan with the facts of each of its nodes, each by those of its operands. docs/MODEL.md, "Facts of a node".
-#[derive(Debug, Drop)]
+#[derive(Drop)]
 pub struct PlanFacts {
     pub plan: Plan,
     /// The facts of each node of the plan.

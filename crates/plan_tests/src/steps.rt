@@ -22,7 +22,7 @@ pub(crate) struct Given {
 }
 
 /// What a list comes to.
-#[derive(Clone, Copy)]
+#[derive(Clone, Copy, Debug)]
 pub(crate) enum Told {
     /// It fails at a place, for a cause.
     Fails(u32, StepWhy),
@@ -90,9 +90,9 @@ pub(crate) fn check(
     let mut stack = StepStack::with(alloc, room)?;
     for (steps, told) in rows {
         let expected = answer(*told, policy.user);
-        assert_eq!(rt; lent(rt, &job, steps, &mut stack), expected, "{steps:?}");
+        assert!(rt; lent(rt, &job, steps, &mut stack) == expected, "{told:?}");
         assert!(rt; steps.len() < 1_000_000);
-        assert_eq!(rt; check_steps(alloc, &job, steps), expected, "{steps:?}");
+        assert!(rt; check_steps(alloc, &job, steps) == expected, "{told:?}");
     }
     Ok(())
 }

@@ -5,7 +5,7 @@ use mq_base::{AttrSet, Schema, Scheme, Seq, SubjectId, Text};
 
 /// An accepted policy. Subjects, tables and attributes have their ids in the order of the file.
 /// docs/FORMATS.md, "Policy file", says what is accepted, and docs/MODEL.md, "Grants", what each subject may see.
-#[derive(Debug, Drop)]
+#[derive(Drop)]
 pub struct Policy {
     /// The tables, and all their columns.
     pub schema: Schema,

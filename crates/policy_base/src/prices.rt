@@ -1,6 +1,6 @@
 /// The prices and sizes that a price file states for a policy. Each number is within 64 bits.
 /// docs/FORMATS.md, "Price file", says what is accepted, and docs/MODEL.md what is reckoned from it.
-#[derive(Clone, Copy, Debug, PartialEq, Eq)]
+#[derive(Clone, Copy)]
 pub struct Prices {
     /// What each subject asks for a unit of work, and 0 past the last subject.
     pub cpu: [u64; 16],

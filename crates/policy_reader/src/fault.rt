@@ -3,7 +3,7 @@ ghost use Rattle.std.specs.Prelude.{◌≡◌, Err};
 use crate::refusal::PolicyCode;
 
 /// The first fault of a policy, with its places.
-#[derive(Clone, Copy, Debug, PartialEq, Eq)]
+#[derive(Clone, Copy)]
 pub struct Fault {
     pub code: PolicyCode,
     pub at: u64,

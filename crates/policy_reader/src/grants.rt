@@ -12,7 +12,7 @@ use mq_base::{AttrId, AttrSet, NoMemory, Text};
 use std::alloc::Global;
 
 /// What a subject may see plain, and what it may see sealed.
-#[derive(Clone, Copy, Debug, PartialEq, Eq)]
+#[derive(Clone, Copy)]
 pub struct Grant {
     pub plain: AttrSet,
     pub sealed: AttrSet,

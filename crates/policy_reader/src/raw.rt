@@ -1,14 +1,14 @@
 use mq_base::{Seq, Text, ValueType};
 
 /// A column as the file gives it.
-#[derive(Debug, Drop)]
+#[derive(Drop)]
 pub struct RawColumn {
     pub name: Text,
     pub ty: ValueType,
 }
 
 /// A table as the file gives it.
-#[derive(Debug, Drop)]
+#[derive(Drop)]
 pub struct RawTable {
     pub name: Text,
     pub owner: Text,
@@ -16,7 +16,7 @@ pub struct RawTable {
 }
 
 /// A rule as the file gives it.
-#[derive(Debug, Drop)]
+#[derive(Drop)]
 pub struct RawRule {
     pub table: Text,
     pub subject: Text,
@@ -25,7 +25,7 @@ pub struct RawRule {
 }
 
 /// A policy file that has the form, before its names are looked at.
-#[derive(Debug, Drop)]
+#[derive(Drop)]
 pub struct RawPolicy {
     pub user: Text,
     pub subjects: Seq<Text>,

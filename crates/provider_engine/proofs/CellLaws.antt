@@ -28,7 +28,7 @@ use Rattle.provider_engine.specs.Decoding.{ShareSeals}
 use Rattle.provider_engine.specs.Opening.{listed_key, seals_of}
 use Rattle.relation_profile.specs.Profile.{Profile}
 use Rattle.relation_profile.specs.Runnable.{all_comparable, are_comparable, is_comparable, is_sealed_for}
-use Rattle.relation_profile.specs.Schemes.{offers, supports}
+use Rattle.mq_base.specs.Schemes.{offers, supports}
 use Rattle.row_algebra.specs.Likeness.{RespectsConstant, RespectsPair}
 use Rattle.row_algebra.specs.Tests.{holds}
 use Rattle.row_algebra.specs.Values.{value_tests}

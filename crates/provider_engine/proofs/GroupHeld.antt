@@ -48,7 +48,7 @@ use Rattle.column_table.specs.Tables.{column_in}
 use Rattle.provider_engine.proofs.HeldLaws.{before_group, one_at, opened_at_rows, runs_after_one, sealed_as_viewed, view_after_one}
 use Rattle.relation_profile.specs.declared.view.View.{View}
 use Rattle.relation_profile.specs.Runnable.{all_comparable, is_comparable, may_fold, runs_one}
-use Rattle.relation_profile.specs.Schemes.{offers}
+use Rattle.mq_base.specs.Schemes.{offers}
 use Rattle.relation_profile.specs.Steps.{after_one}
 use Rattle.relation_profile.specs.View.{view_of}
 use Rattle.row_algebra.specs.Groups.{function_of}

@@ -6,7 +6,7 @@ ghost use Rattle.query_bind.specs.inside.Results.{fault_of};
 use crate::refusal::{BindCode, BindNo};
 
 /// The first fault of a query, with its place.
-#[derive(Clone, Copy, Debug, PartialEq, Eq)]
+#[derive(Clone, Copy)]
 pub struct Fault {
     code: BindCode,
     at: u32,

@@ -1,5 +1,4 @@
 pub mod Profile
-pub mod Schemes
 pub mod Steps
 pub mod Runnable
 pub mod View

@@ -12,7 +12,7 @@ use Rattle.mq_base.specs.declared.query.CmpOp.{CmpOp}
 use Rattle.mq_base.specs.declared.query.CmpOp.TheVariants.{Eq, Lt}
 use Rattle.mq_base.specs.declared.table.Scheme.{Scheme}
 use Rattle.relation_profile.specs.Profile.{Profile}
-use Rattle.relation_profile.specs.Schemes.{offers}
+use Rattle.mq_base.specs.Schemes.{offers}
 use Rattle.relation_profile.specs.Steps.{after_dec, after_enc, after_one, after_two, both}
 
 -- whether an attribute is sealed under a scheme that supports the comparison

@@ -1,5 +1,5 @@
 ghost use Rattle.std.specs.Prelude.{◌≡◌, ◌<◌};
-ghost use Rattle.relation_profile.specs.Schemes as schemes_spec;
+ghost use Rattle.mq_base.specs.Schemes as schemes_spec;
 
 use mq_base::{AttrId, CmpOp, Scheme};
 

@@ -6,7 +6,7 @@ use mq_base::AttrSet;
 use plan_algebra::NodeFacts;
 
 /// The visible attributes of a table: those in plaintext, and those that are sealed.
-#[derive(Clone, Copy, Debug, PartialEq, Eq)]
+#[derive(Clone, Copy)]
 pub struct Seen {
     pub plain: AttrSet,
     pub sealed: AttrSet,

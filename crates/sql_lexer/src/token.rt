@@ -12,7 +12,7 @@ pub enum TokenKind {
 }
 
 /// A token of a text, which it borrows. docs/FORMATS.md, "Query", says which texts are tokens.
-#[derive(Clone, Copy, Debug)]
+#[derive(Clone, Copy)]
 pub struct Token<'a> {
     /// The kind of the token.
     pub kind: TokenKind,

@@ -19,7 +19,7 @@ use std::alloc::Global;
 use word_forms::Keyword;
 
 /// What GROUP BY and HAVING ask for.
-#[derive(Debug, Drop)]
+#[derive(Drop)]
 pub struct Groups<'a> {
     /// The grouped columns, in order. None where there is no GROUP BY.
     pub group: Seq<RawCol<'a>>,

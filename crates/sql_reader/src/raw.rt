@@ -1,7 +1,7 @@
 use mq_base::{Agg, CmpOp, Seq};
 
 /// A column as a query names it.
-#[derive(Clone, Copy, Debug)]
+#[derive(Clone, Copy)]
 pub struct RawCol<'a> {
     /// The table before the dot, where there is one.
     pub table: Option<&'a str>,
@@ -12,7 +12,7 @@ pub struct RawCol<'a> {
 }
 
 /// A literal of a query.
-#[derive(Clone, Copy, Debug)]
+#[derive(Clone, Copy)]
 pub enum RawLit<'a> {
     /// A number.
     Number(i64),
@@ -21,7 +21,7 @@ pub enum RawLit<'a> {
 }
 
 /// The right side of a comparison.
-#[derive(Clone, Copy, Debug)]
+#[derive(Clone, Copy)]
 pub enum RawSide<'a> {
     /// A column.
     Col(RawCol<'a>),
@@ -30,7 +30,7 @@ pub enum RawSide<'a> {
 }
 
 /// A condition of ON or WHERE.
-#[derive(Clone, Copy, Debug)]
+#[derive(Clone, Copy)]
 pub struct RawCond<'a> {
     /// The column on the left.
     pub left: RawCol<'a>,
@@ -41,7 +41,7 @@ pub struct RawCond<'a> {
 }
 
 /// An item of a select list.
-#[derive(Clone, Copy, Debug)]
+#[derive(Clone, Copy)]
 pub enum RawItem<'a> {
     /// A column.
     Col(RawCol<'a>),
@@ -62,7 +62,7 @@ pub enum RawItem<'a> {
 }
 
 /// A table of a FROM list.
-#[derive(Debug, Drop)]
+#[derive(Drop)]
 pub struct RawSource<'a> {
     /// The table's name.
     pub table: &'a str,
@@ -73,7 +73,7 @@ pub struct RawSource<'a> {
 }
 
 /// A condition of HAVING.
-#[derive(Clone, Copy, Debug)]
+#[derive(Clone, Copy)]
 pub struct RawHaving<'a> {
     /// What is compared: a function over a column, or the count.
     pub item: RawItem<'a>,
@@ -84,7 +84,7 @@ pub struct RawHaving<'a> {
 }
 
 /// A query as its text gives it, with slices of the text for names and texts.
-#[derive(Debug, Drop)]
+#[derive(Drop)]
 pub struct RawQuery<'a> {
     /// The select list, in order.
     pub items: Seq<RawItem<'a>>,

@@ -7,7 +7,7 @@ ghost use Rattle.sql_reader.specs.inside.Answers.{KeepsWide};
 use sql_lexer::Token;
 
 /// How far the tokens of a text are read.
-#[derive(Clone, Copy, Debug)]
+#[derive(Clone, Copy)]
 pub struct Reached {
     /// How many tokens are read: the place of the next among them.
     pub at: usize,

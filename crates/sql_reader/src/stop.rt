@@ -4,7 +4,7 @@ ghost use Rattle.sql_reader.specs.declared.stop.Stop.TheVariants as stop;
 use std::alloc::{AllocError, AllocFailed};
 
 /// Why a phrase cannot be read from tokens.
-#[derive(Clone, Copy, Debug)]
+#[derive(Clone, Copy)]
 pub enum Stop {
     /// No phrase goes on with the token at this place of the text, or the tokens end before the phrase does.
     Unexpected(Option<u32>),

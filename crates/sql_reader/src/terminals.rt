@@ -19,7 +19,7 @@ use sql_lexer::Token;
 use word_forms::{Keyword, integer};
 
 /// A word that is a function over a column.
-#[derive(Clone, Copy, Debug)]
+#[derive(Clone, Copy)]
 pub struct FunctionWord {
     /// The function.
     pub func: Agg,
@@ -113,7 +113,7 @@ fn inside(text: &str) -> &str
 }
 
 // A literal as its token spells it.
-#[derive(Clone, Copy, Debug)]
+#[derive(Clone, Copy)]
 struct SpelledLiteral<'a> {
     // The literal. A number outside 64 bits reads as 0: its text is refused in the end.
     literal: RawLit<'a>,

@@ -7,7 +7,7 @@ use mq_base::{NoMemory, NodeId};
 use std::alloc::Global;
 
 /// A table that steps made: its node, its state, and what it cost so far, cut at 2^128 - 1.
-#[derive(Clone, Copy, Debug, PartialEq, Eq)]
+#[derive(Clone, Copy)]
 pub struct Slot {
     pub node: NodeId,
     pub state: State,
@@ -15,7 +15,7 @@ pub struct Slot {
 }
 
 /// Room for the tables that the steps of a list make, which a caller lends. docs/MODEL.md, "Step lists".
-#[derive(Debug, Drop)]
+#[derive(Drop)]
 pub struct StepStack {
     slots: Vec<Slot>,
 }

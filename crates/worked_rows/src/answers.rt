@@ -5,7 +5,7 @@ ghost use Rattle.outside_io.specs.Outside.{HasDistinctNames};
 use crate::planned::between;
 use crate::tests::{RUN, joined, ran};
 use mq_base::{NoMemory, Seq, Text};
-use outside_io::MemorySink;
+use outside_memory::MemorySink;
 use planner_cli::Status;
 use std::alloc::Global;
 use std::process::Abort;

@@ -4,7 +4,7 @@ ghost use Rattle.outside_io.specs.Outside.{HasDistinctNames};
 
 use crate::tests::{RUN, joined, ran};
 use mq_base::{NoMemory, NodeId, Seq, Text};
-use outside_io::MemorySink;
+use outside_memory::MemorySink;
 use planner_cli::Status;
 use std::alloc::Global;
 use std::process::Abort;

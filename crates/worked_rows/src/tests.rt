@@ -2,7 +2,7 @@ ghost use Rattle.std.specs.Prelude.{IfOk};
 ghost use Rattle.outside_io.specs.Outside.{HasDistinctNames};
 
 use mq_base::{NoMemory, NodeId, Seq, TableId, Text};
-use outside_io::{MemoryShelf, MemorySink};
+use outside_memory::{MemoryShelf, MemorySink};
 use planner_cli::{FileRole, InputFault, Status, run};
 use std::alloc::Global;
 use std::process::Abort;

@@ -166,7 +166,7 @@ fn check(rt: &impl Abort, alloc: Global, cuts: &[Cut]) -> Result<(), Fail> {
     for (stated, distinct, cpu, net, row) in cuts {
         let prices = prices(&[0, *cpu], *net, stated, distinct);
         let found = cost(rt, alloc, &schema, &prices, row)?;
-        assert_eq!(rt; found, row.3, "{:?} of {} at {cpu} and {net}", row.1, row.0);
+        assert_eq!(rt; found, row.3, "{:?} of {} at {cpu} and {net}", row.2, row.0);
     }
     Ok(())
 }

@@ -93,7 +93,7 @@ fn check(rt: &impl Abort, alloc: Global, rows: &[Row]) -> Result<(), Fail> {
     let prices = stated();
     for row in rows {
         let found = cost(rt, alloc, &schema, &prices, row)?;
-        assert_eq!(rt; found, row.3, "{:?} of {}", row.1, row.0);
+        assert_eq!(rt; found, row.3, "{:?} of {}", row.2, row.0);
     }
     Ok(())
 }
@@ -109,7 +109,7 @@ fn check_free(rt: &impl Abort, alloc: Global, rows: &[Row]) -> Result<(), Fail> 
     let prices = prices(&[], 0, &[10, 20, 7, 5], &[3, 4, 6, 20, 7, 2, 2, 5]);
     for row in rows {
         let found = cost(rt, alloc, &schema, &prices, row)?;
-        assert_eq!(rt; found, 0, "{:?} of {}", row.1, row.0);
+        assert_eq!(rt; found, 0, "{:?} of {}", row.2, row.0);
     }
     Ok(())
 }

@@ -56,7 +56,7 @@ fn check(rt: &impl Abort, alloc: Global, rows: &[Row], whole: u128) -> Result<()
     let mut sum = 0u128;
     for row in rows {
         let found = cost(rt, alloc, &schema, &prices, row)?;
-        assert_eq!(rt; found, row.3, "{:?} of {}", row.1, row.0);
+        assert_eq!(rt; found, row.3, "{:?} of {}", row.2, row.0);
         sum = sum.saturating_add(found);
     }
     assert_eq!(rt; sum, whole);

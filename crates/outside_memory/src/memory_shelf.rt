@@ -1,14 +1,14 @@
 ghost use Rattle.std.specs.Prelude.{◌≡◌, ◌<◌, ◌≤◌, ◌==◌, [], true, length, Some, None, IfOk, IsErrOf, MatchOption, unwrap_or};
 ghost use Rattle.std.specs.List.{list_any};
 ghost use Rattle.outside_io.specs.Outside.{HasDistinctNames, content_of, IsHeld, IsAbsent, TakesWithin, Rose, Follows, KeepsName};
-ghost use Rattle.outside_io.specs.Scripts.{next_call, answer_within, scripted_answer, IsAnswer};
+ghost use Rattle.outside_memory.specs.Scripts.{next_call, answer_within, scripted_answer, IsAnswer};
 
-use crate::shelf::{Shelf, ShelfNo};
 use mq_base::{Seq, Text};
+use outside_io::{Shelf, ShelfNo};
 use std::alloc::Global;
 
 /// A shelf in memory, whose calls can be made to fail. It tells what it holds.
-#[derive(Debug, Drop)]
+#[derive(Drop)]
 pub struct MemoryShelf {
     files: Seq<(Text, Text)>,
     failing: Seq<u64>,
@@ -19,7 +19,7 @@ pub struct MemoryShelf {
 }
 
 impl MemoryShelf {
-    ghost use Rattle.outside_io.specs.MemoryShelf.{failing_of, calls_of};
+    ghost use Rattle.outside_memory.specs.MemoryShelf.{failing_of, calls_of};
 
     /// A shelf of these files, a name and bytes each. Its calls are numbered from 1, and each whose number
     /// is in `failing` answers `Failed`, whatever is held. A name that is not held answers `Failed` too.
@@ -88,7 +88,7 @@ fn is_failing(failing: &[u64], call: u64) -> bool
 }
 
 impl Shelf for MemoryShelf {
-    ghost use Rattle.outside_io.specs.MemoryShelf.{files_of, failing_of, calls_of};
+    ghost use Rattle.outside_memory.specs.MemoryShelf.{files_of, failing_of, calls_of};
 
     ghost state = { λ shelf. record {
       held = Some shelf.files;

@@ -1,6 +1,6 @@
 -- The parts of the shelf in memory that its clauses name.
 use Rattle.std.specs.Prelude.{ℕ, List}
-use Rattle.outside_io.specs.declared.memory_shelf.MemoryShelf.{MemoryShelf}
+use Rattle.outside_memory.specs.declared.memory_shelf.MemoryShelf.{MemoryShelf}
 use Rattle.outside_io.specs.Outside.{Files}
 
 -- its files, a name and bytes each

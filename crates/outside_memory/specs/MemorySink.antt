@@ -1,6 +1,6 @@
 -- The parts of the sink in memory that its clauses name.
 use Rattle.std.specs.Prelude.{ℕ, List}
-use Rattle.outside_io.specs.declared.memory_sink.MemorySink.{MemorySink}
+use Rattle.outside_memory.specs.declared.memory_sink.MemorySink.{MemorySink}
 
 -- what was written so far
 abbrev pub bytes_of : MemorySink → List ℕ

@@ -1,13 +1,13 @@
 ghost use Rattle.std.specs.Prelude.{◌≡◌, ◌≤◌, ◌==◌, [], true, length, Some, IsSome, OnOk, IsErrOf};
 ghost use Rattle.outside_io.specs.Outside.{SinkFollows, Rose, Appends, AppendsFront};
-ghost use Rattle.outside_io.specs.Scripts.{next_call, kept_of, PutsAs};
+ghost use Rattle.outside_memory.specs.Scripts.{next_call, kept_of, PutsAs};
 
-use crate::sink::{Sink, SinkNo};
 use mq_base::Seq;
+use outside_io::{Sink, SinkNo};
 use std::alloc::Global;
 
 /// A sink in memory, whose calls can be made to fail. It tells what was written.
-#[derive(Debug, Drop)]
+#[derive(Drop)]
 pub struct MemorySink {
     written: Vec<u8>,
     failing: Seq<(u64, u64)>,
@@ -16,7 +16,7 @@ pub struct MemorySink {
 }
 
 impl MemorySink {
-    ghost use Rattle.outside_io.specs.MemorySink.{failing_of, calls_of};
+    ghost use Rattle.outside_memory.specs.MemorySink.{failing_of, calls_of};
 
     /// An empty sink. Its calls are numbered from 1. A call whose number is the first of a pair in
     /// `failing` keeps as many bytes of its piece as the second says, or all where the piece is shorter,
@@ -58,7 +58,7 @@ fn kept_at(failing: &[(u64, u64)], call: u64) -> Option<u64>
 }
 
 impl Sink for MemorySink {
-    ghost use Rattle.outside_io.specs.MemorySink.{bytes_of, failing_of, calls_of};
+    ghost use Rattle.outside_memory.specs.MemorySink.{bytes_of, failing_of, calls_of};
 
     ghost state = { λ sink. record {
       written = Some sink.written.items;
